@@ -1,0 +1,20 @@
+use Rattle.std.proofs.Common.{◌≡◌, ◌+◌, ◌*◌, ◌≤◌, ◌++◌, length, ap, sym, ◌∙◌, arith, take}
+use Rattle.std.proofs.lemmas.List.{append-nil}
+use Rattle.ac_bits.specs.Bits.{bits_of, bits}
+use Rattle.ac_bits.proofs.Laws.{length-view, bits-zero}
+use Rattle.ac_bits.proofs.sink.BitSink.bytes.Goals as goal
+
+pub returns-clause-count : goal.returns-clause-count
+returns-clause-count c =
+    let s = c.self.inside in
+    let len : 8 * s.full + s.used ≡ length c.args.self.now = sym (length-view s.buf s.full s.held s.used (omega (arith, c.self.told, c.self.invariant))) ∙ ap length c.self.view_is in
+    omega (arith, len)
+
+pub returns-clause-bytes : goal.returns-clause-bytes
+returns-clause-bytes c =
+    let s = c.self.inside in
+    let len : 8 * s.full + s.used ≡ length c.args.self.now = sym (length-view s.buf s.full s.held s.used (omega (arith, c.self.told, c.self.invariant))) ∙ ap length c.self.view_is in
+    let none : s.used ≡ 0 = omega (arith, len) in
+    sym (append-nil (bits_of (take s.full s.buf)))
+    ∙ (ap (λ l. bits_of (take s.full s.buf) ++ l) (sym (bits-zero s.held) ∙ ap (bits s.held) (sym none))
+    ∙ c.self.view_is)

@@ -1,0 +1,86 @@
+ghost use Rattle.std.specs.Prelude.{◌≡◌, ℕ, ◌+◌, ◌*◌, ◌%◌, ◌/◌, ◌^◌, ◌<◌, ◌≤◌, List, [], ◌++◌, length, take, Bool};
+ghost use Rattle.ac_bits.specs.Bits.{bits, bits_of, Appends};
+
+use std::marker::Model;
+
+/// The bits of one frame, up to 30,720 of them.
+#[derive(Drop)]
+pub struct BitSink {
+    buf: [u8; 3840],
+    full: usize,
+    held: u64,
+    used: u32,
+}
+
+impl Model for BitSink {
+    ghost Value = { List Bool };
+
+    ghost view = { λ s. bits_of (take s.full s.buf) ++ bits s.held s.used };
+
+    ghost invariant = { λ s. (8 * s.full + s.used ≤ 30720) × (s.used < 8) × (s.held < 2 ^ s.used) };
+}
+
+/// Moves whole bytes of `held` into the buffer.
+fn flush(buf: &mut [u8; 3840], mut full: usize, mut held: u64, mut used: u32) -> (usize, u64, u32)
+    requires room { 8 * full + used ≤ 30720 }
+    requires small { used < 40 }
+    requires fits { held < 2 ^ used }
+    ensures same { bits_of (take result.0 buf.new) ++ bits result.1 result.2 ≡ bits_of (take full buf.old) ++ bits held used }
+    ensures count { 8 * result.0 + result.2 ≡ 8 * full + used }
+    ensures small { result.2 < 8 }
+    ensures fits { result.1 < 2 ^ result.2 }
+{
+    while used >= 8 {
+        used -= 8;
+        let byte = held >> used;
+        buf[full] = byte as u8;
+        held -= byte << used;
+        full += 1;
+    }
+    (full, held, used)
+}
+
+impl BitSink {
+    pub fn new() -> BitSink
+        ensures { result ≡ [] }
+    {
+        BitSink {
+            buf: [0; 3840],
+            full: 0,
+            held: 0,
+            used: 0,
+        }
+    }
+
+    /// Appends the `width` bits of `value`.
+    pub fn put(&mut self, value: u32, width: u32)
+        requires width { width ≤ 32 }
+        requires fits { value < 2 ^ width }
+        requires room { length self.old + width ≤ 30720 }
+        ensures bits { Appends self.old self.new (bits value width) }
+        ensures len { length self.new ≡ length self.old + width }
+    {
+        let held = (self.held << width) + value as u64;
+        let (full, held, used) = flush(&mut self.buf, self.full, held, self.used + width);
+        self.full = full;
+        self.held = held;
+        self.used = used;
+    }
+
+    pub fn len(&self) -> u32
+        ensures len { result ≡ length self.now }
+        ensures within { length self.now ≤ 30720 }
+    {
+        8 * self.full as u32 + self.used
+    }
+
+    /// The bytes at the front of `out`, and how many they are.
+    pub fn bytes(&self, out: &mut [u8; 3840]) -> usize
+        requires { length self.now % 8 ≡ 0 }
+        ensures count { 8 * result ≡ length self.now }
+        ensures bytes { bits_of (take result out.new) ≡ self.now }
+    {
+        *out = self.buf;
+        self.full
+    }
+}

@@ -1,0 +1,26 @@
+-- One entry more.
+use Rattle.std.proofs.Common.{◌≡◌, ◌≢◌, ℕ, ◌+◌, ◌<◌, ◌≤◌, ℤ, pos, List, length, slice_index_or, unsigned_abs, arith, below_more, get_or-set_other, get_or-set_same, inl, inr, subst, sym}
+use Rattle.std.proofs.lemmas.Bool.{cases_eq}
+use Rattle.std.proofs.Math.ListN.{set}
+use Rattle.ac_base.specs.Sigma.{Within}
+use Rattle.ac_mdct.specs.Wave.{Lists}
+
+pub lists_more : (f : ℕ → ℤ) (n : ℕ) (xs : List ℤ) (z : ℤ) → n < length xs → Lists n f xs → z ≡ f n → Lists (n + 1) f (set xs n z)
+lists_more f n xs z room before here =
+    below_more _ n
+    (λ k h. let ne : k ≢ n = omega arith in rw get_or-set_other (before k h))
+    (rw get_or-set_same here)
+
+pub within_more : (m n : ℕ) (xs : List ℤ) (z : ℤ) → n < length xs → Within m n xs → unsigned_abs z ≤ m → Within m (n + 1) (set xs n z)
+within_more m n xs z room before here =
+    below_more _ n
+    (λ k h. let ne : k ≢ n = omega arith in rw get_or-set_other (before k h))
+    (rw get_or-set_same here)
+
+-- one entry anew
+pub within_set : (m n i : ℕ) (xs : List ℤ) (z : ℤ) → i < length xs → Within m n xs → unsigned_abs z ≤ m → Within m n (set xs i z)
+within_set m n i xs z room before here k below =
+    elim (cases_eq k i) [
+      | inl same ↦ let P : ℕ → Type 0 = λ j. unsigned_abs (slice_index_or (set xs i z) j (pos 0)) ≤ m in subst P (sym same) (rw get_or-set_same here)
+      | inr apart ↦ rw get_or-set_other (before k below)
+    ]

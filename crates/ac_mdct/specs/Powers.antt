@@ -1,0 +1,30 @@
+-- Odd phases as powers of five.
+use Rattle.std.specs.Prelude.{◌≡◌, ℕ, ◌+◌, ◌^◌, ◌<◌, List, ℤ, pos, neg_ℤ, nat_lt, if◌then◌else◌, slice_index, slice_index_or}
+use Rattle.ac_base.specs.Cosine.{cosine_at}
+use Rattle.ac_mdct.specs.declared.powers.TheConstants.{LOG, FORWARD, INVERSE}
+use Rattle.ac_mdct.specs.Place.{place}
+
+-- 2 h + 1 or its opposite is 5 to this power, modulo 2048
+unfoldable pub log_of : ℕ → ℕ
+log_of h = slice_index LOG h
+
+unfoldable pub forward_pick : ℕ → ℕ
+forward_pick b = slice_index FORWARD b
+
+unfoldable pub inverse_pick : ℕ → ℕ
+inverse_pick b = slice_index INVERSE b
+
+-- the first n cosines of the powers
+abbrev pub IsPowers : ℕ → List ℤ → Type 0
+IsPowers n table = (j : ℕ) → j < n → slice_index_or table j (pos 0) ≡ cosine_at (5 ^ j)
+
+-- half a turn from the power 256 on
+unfoldable pub turned_by : ℕ → ℤ → ℤ
+turned_by e u = if nat_lt e 256 then u else neg_ℤ u
+
+-- the folded values, and the coefficients, in the order of their logarithms
+abbrev pub forward_spun : List ℤ → ℕ → ℤ
+forward_spun u b = turned_by (log_of (place (forward_pick b) + 128)) (slice_index_or u (forward_pick b) (pos 0))
+
+abbrev pub inverse_spun : List ℤ → ℕ → ℤ
+inverse_spun u b = turned_by (log_of (inverse_pick b)) (slice_index_or u (inverse_pick b) (pos 0))

@@ -1,0 +1,89 @@
+// The transforms by 256 products a sum: folded, and in the order of logarithms.
+ghost use Rattle.std.specs.Prelude.{◌≡◌, ◌<◌, ◌≤◌, ◌^◌, ◌+◌, ◌-◌, ◌++◌, ℕ, pos, neg_ℤ, unsigned_abs, slice_index_or};
+ghost use Rattle.ac_base.specs.Sigma.{Within};
+ghost use Rattle.ac_mdct.specs.Forward.{windowed, forward_sum, IsForward};
+ghost use Rattle.ac_mdct.specs.Inverse.{inverse_sum, part, IsSound, IsDelay};
+ghost use Rattle.ac_mdct.specs.Place.{place, unfolded};
+ghost use Rattle.ac_mdct.specs.Wave.{Lists};
+
+use crate::direct::windowed;
+use crate::folded::fold;
+use crate::powers::{log, place_of, powers, slid, spin_forward, spin_inverse};
+use crate::rounding::{coefficient_of, part, sample};
+
+/// The coefficients of 256 samples and the 256 after them.
+pub fn forward(prev: &[i32; 256], now: &[i32; 256], out: &mut [i32; 256])
+    requires before { Within (2 ^ 23) 256 prev.now }
+    requires after { Within (2 ^ 23) 256 now.now }
+    ensures { IsForward prev.now now.now out.new }
+{
+    let table = powers();
+    let mut v = [0i32; 512];
+    windowed(prev, now, &mut v);
+    let mut u = [0i32; 256];
+    fold(&v, &mut u);
+    let mut w = [0i32; 256];
+    spin_forward(&u, &mut w);
+    for k in 0..256usize {
+        out[k] = coefficient_of(slid(&w, &table, log(k)));
+    }
+}
+
+/// T(n) at the places that are kept.
+fn inverse_sums(coefs: &[i32; 256], out: &mut [i64; 256])
+    requires { Within (2 ^ 24) 256 coefs.now }
+    ensures value { Lists 256 (λ i. inverse_sum coefs.now (place i)) out.new }
+    ensures bound { Within (2 ^ 62) 256 out.new }
+{
+    let table = powers();
+    let mut w = [0i32; 256];
+    spin_inverse(coefs, &mut w);
+    for i in 0..256usize {
+        out[i] = slid(&w, &table, log(place_of(i as u8) + 128));
+    }
+}
+
+#[inline]
+fn negated(t: i64) -> i64
+    requires { unsigned_abs t ≤ 2 ^ 62 }
+    ensures value { result ≡ neg_ℤ t }
+    ensures bound { unsigned_abs result ≤ 2 ^ 62 }
+{
+    -t
+}
+
+#[inline]
+#[tactic(auto, unfolding(crate::specs::Place::unfolded))]
+fn unfold(sums: &[i64; 256], n: usize) -> i64
+    requires bound { Within (2 ^ 62) 256 sums.now }
+    requires place { n < 512 }
+    ensures value { result ≡ unfolded sums.now n }
+    ensures bound { unsigned_abs result ≤ 2 ^ 62 }
+{
+    if n < 128 {
+        sums[n]
+    } else if n < 256 {
+        negated(sums[255 - n])
+    } else if n < 384 {
+        sums[n - 128]
+    } else {
+        sums[639 - n]
+    }
+}
+
+/// The samples of a block of coefficients, and what is left for the next.
+pub fn inverse(coefs: &[i32; 256], delay: &mut [i64; 256], out: &mut [i32; 256])
+    requires coefs { Within (2 ^ 24) 256 coefs.now }
+    requires delay { Within (2 ^ 55) 256 delay.old }
+    ensures sound { IsSound coefs.now delay.old out.new }
+    ensures delay { IsDelay coefs.now delay.new }
+    ensures bound { Within (2 ^ 55) 256 delay.new }
+{
+    let mut sums = [0i64; 256];
+    inverse_sums(coefs, &mut sums);
+    for n in 0..256usize {
+        let first = part(unfold(&sums, n), ac_base::window(n as u16));
+        out[n] = sample(first, delay[n]);
+        delay[n] = part(unfold(&sums, n + 256), ac_base::window(n as u16 + 256));
+    }
+}
