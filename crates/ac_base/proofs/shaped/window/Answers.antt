@@ -1,6 +1,6 @@
 use Rattle.std.proofs.Common.{◌<◌, arith}
 use Rattle.std.proofs.lemmas.Int.{ints}
-use Rattle.ac_base.proofs.Shape.{window_bound}
+use Rattle.ac_base.proofs.HalfWindow.{window_bound}
 use Rattle.ac_base.proofs.shaped.window.Goals as goal
 
 pub returns-clause-bound : goal.returns-clause-bound
