@@ -1,5 +1,5 @@
 -- What an object of the outside tells: a source the bytes to come, a sink the bytes taken, both how often they failed.
-use Rattle.std.specs.Prelude.{◌≡◌, ℕ, ◌+◌, ◌-◌, ◌<◌, ◌≤◌, ◌^◌, min, List, [], ◌++◌, length, take, drop, Option, Some, None, IfSome}
+use Rattle.std.specs.Prelude.{◌≡◌, ℕ, ◌+◌, ◌-◌, ◌<◌, ◌≤◌, ◌^◌, min, List, [], ◌++◌, length, take, drop, Option, Some, None}
 
 -- one more, but a count of 64 bits stands still at its end
 abbrev pub next : ℕ → ℕ

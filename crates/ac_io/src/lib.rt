@@ -4,12 +4,17 @@
 //! and the bytes taken as lists, where an object tells them.
 #![tactic(auto)]
 
+mod mem_sink;
+mod mem_source;
 mod memory;
 mod outside;
-mod std_edge;
+mod std_sink;
+mod std_source;
 mod sure;
 
-pub use memory::{MemSink, MemSource};
+pub use mem_sink::MemSink;
+pub use mem_source::MemSource;
 pub use outside::{Failed, Sink, Source, fill};
-pub use std_edge::{StdSink, StdSource};
+pub use std_sink::StdSink;
+pub use std_source::StdSource;
 pub use sure::{NullSink, SureSource};

@@ -71,3 +71,6 @@ pub fn fill<S: Source>(input: &mut S, into: &mut [u8]) -> Result<usize, Failed>
     }
     Ok(done)
 }
+
+#[cfg(test)]
+mod tests;

@@ -1,6 +1,6 @@
-use Rattle.std.proofs.Common.{◌≡◌, ℕ, ◌+◌, ◌-◌, ◌≤◌, ◌<◌, ◌++◌, take, drop, length, arith, subst, length-take, length-drop, ◌∙◌}
-use borrow.Rule.Slice.PartMut.{put_mid, mid_of, post_of, same_len_mid}
-use Rattle.ac_io.specs.Outside.{ReadsFront, IsAtEnd}
+use Rattle.std.proofs.Common.{◌≡◌, ℕ, ◌+◌, ◌-◌, ◌<◌, ◌++◌, take, drop, length, arith, subst, length-take, length-drop}
+use borrow.Rule.Slice.PartMut.{post_of, same_len_mid}
+use Rattle.ac_io.specs.Outside.{ReadsFront}
 use Rattle.ac_io.proofs.Pieces.{reads_more, at_end}
 use Rattle.ac_io.proofs.outside.fill.Goals as goal
 

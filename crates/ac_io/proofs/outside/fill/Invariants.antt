@@ -1,4 +1,4 @@
-use Rattle.std.proofs.Common.{◌≡◌, ◌-◌, ◌≤◌, length}
+use Rattle.std.proofs.Common.{◌-◌, ◌≤◌, length}
 use Rattle.ac_io.specs.Outside.{ReadsFront}
 use Rattle.ac_io.proofs.outside.fill.Given as goal
 

@@ -1,6 +1,6 @@
 use Rattle.std.proofs.Common.{length, take, ◌-◌, ◌≤◌, ◌≡◌}
 use Rattle.ac_io.specs.Outside.{Adds}
-use Rattle.ac_io.proofs.std_edge.StdSinkSink.write.Given as goal
+use Rattle.ac_io.proofs.std_sink.StdSinkSink.write.Given as goal
 
 abbrev pub invariant-loop-done : goal.invariant-loop-done
 invariant-loop-done g l =

@@ -1,6 +1,6 @@
 use Rattle.std.proofs.Common.{rules, arith}
 use Rattle.ac_io.proofs.Written.{adds_more}
-use Rattle.ac_io.proofs.std_edge.StdSinkSink.write.Goals as goal
+use Rattle.ac_io.proofs.std_sink.StdSinkSink.write.Goals as goal
 
 pub loop-done-preserved : goal.loop-done-preserved
 loop-done-preserved g c =

@@ -1,41 +1,8 @@
-ghost use Rattle.std.specs.Prelude.{◌≡◌, ℕ, ◌<◌, ◌≤◌, [], length, take, Some, None, IfOk, OnOk, OnErr};
-ghost use Rattle.ac_io.specs.Outside.{Rose, Adds, next};
+ghost use Rattle.std.specs.Prelude.{◌≡◌, ◌<◌, ◌≤◌, [], length, take, IfOk, OnOk, OnErr};
+ghost use Rattle.ac_io.specs.Outside.{Adds, next};
 
-use crate::outside::{Failed, Sink, Source};
-use std::io::{Read, Write};
-
-/// A reader of std. It tells the bytes to come where the reader does.
-#[derive(Drop)]
-pub struct StdSource<R: Read + Drop> {
-    inner: R,
-    faults: u64,
-}
-
-impl<R: Read + Drop> StdSource<R> {
-    /// A source that reads from `inner`.
-    pub fn new(inner: R) -> StdSource<R>
-        ensures left { R.remaining result.inner ≡ R.remaining inner }
-        ensures faults { result.faults ≡ 0 }
-    {
-        StdSource { inner, faults: 0 }
-    }
-}
-
-impl<R: Read + Drop> Source for StdSource<R> {
-    ghost left = { λ s. R.remaining s.inner };
-
-    ghost faults = { λ s. s.faults };
-
-    fn read(&mut self, into: &mut [u8]) -> Result<usize, Failed> {
-        match self.inner.read(into) {
-            Ok(count) => Ok(count),
-            Err(_) => {
-                self.faults = self.faults.saturating_add(1);
-                Err(Failed)
-            }
-        }
-    }
-}
+use crate::outside::{Failed, Sink};
+use std::io::Write;
 
 /// A writer of std. It tells the bytes taken where the writer does.
 #[derive(Drop)]
@@ -86,3 +53,6 @@ impl<W: Write + Drop> Sink for StdSink<W> {
         Ok(())
     }
 }
+
+#[cfg(test)]
+mod tests;
