@@ -1,0 +1,4 @@
+pub mod Numbers
+pub mod RateTexts
+pub mod Pairs
+pub mod Split

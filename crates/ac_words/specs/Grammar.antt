@@ -1,0 +1,98 @@
+-- The words of a command line, as a relation between the words and what they mean:
+-- the command, then pairs of an option and its value, then the names of the input, the output and the report.
+use Rattle.std.specs.Fmt.{decimal}
+use Rattle.std.specs.List.{list_all, list_any}
+use Rattle.std.specs.Prelude.{◌≡◌, ℕ, Bool, not, true, nat_lt, ◌||◌, ◌&&◌, List, [], ◌∷◌, ◌++◌, length, Option, None, find, option_map, MatchOption, IsTrue, codes}
+use Rattle.std.specs.Str.{bytes_eq}
+use Rattle.std.specs.Str.Parse.{starts_with_minus}
+use Rattle.ac_words.specs.Rates.{is_rate}
+use Rattle.ac_words.specs.declared.meaning.Couple.TheVariants.{Auto}
+use Rattle.ac_words.specs.declared.meaning.Options.{Options}
+
+abbrev pub Text : Type 0
+Text = List ℕ
+
+-- ---- pairs
+
+-- an option's name, without its two hyphens, and its value
+abbrev pub Pair : Type 0
+Pair = Text × Text
+
+-- the words of the pairs
+abbrev pub spelled : List Pair → List Text
+spelled [] = []
+spelled (p ∷ ps) = (codes "--" ++ p.0) ∷ p.1 ∷ spelled ps
+
+-- some pair has this name
+abbrev pub has_name : Text → List Pair → Bool
+has_name name = list_any (λ p. bytes_eq p.0 name)
+
+-- no name stands twice
+abbrev pub none_twice : List Pair → Bool
+none_twice [] = true
+none_twice (p ∷ ps) = not (has_name p.0 ps) && none_twice ps
+
+-- the value of the first pair of this name
+abbrev pub value_in : Text → List Pair → Option Text
+value_in name ps = option_map (λ p. p.1) (find (λ p. bytes_eq p.0 name) ps)
+
+-- each pair's name is one of these
+abbrev pub all_known : List Text → List Pair → Bool
+all_known known = list_all (λ p. list_any (λ name. bytes_eq p.0 name) known)
+
+-- ---- the options of encode
+
+abbrev pub encode_known : List Text
+encode_known = codes "rate" ∷ []
+
+-- the text is a rate in decimal digits, without a sign or a leading zero; a rate is required
+abbrev pub RateOf : Option Text → ℕ → Type 0
+RateOf value rate = MatchOption value ⊥ (λ text. (text ≡ decimal rate) × IsTrue (is_rate rate))
+
+-- what the values say; an option that no words give yet has its default
+pub record Says (rate : Option Text) (o : Options) : Type 0 where
+  pub rate_is : RateOf rate o.rate
+  pub nodes_is : o.nodes ≡ 20000
+  pub bw_is : o.bw ≡ None
+  pub couple_is : o.couple ≡ Auto
+
+-- these words are pairs that give these options
+pub record EncodePairs (ws : List Text) (o : Options) : Type 0 where
+  pub pairs : List Pair
+  pub words : ws ≡ spelled pairs
+  pub known : all_known encode_known pairs ≡ true
+  pub once : none_twice pairs ≡ true
+  pub says : Says (value_in (codes "rate") pairs) o
+
+-- ---- the names
+
+-- `-`, or not empty and without a hyphen before it
+abbrev pub is_name : Text → Bool
+is_name word = bytes_eq word (codes "-") || (nat_lt 0 (length word) && not (starts_with_minus word))
+
+pub record LastWords : Type 0 where
+  pub from : Text
+  pub to : Text
+  pub report : Text
+
+abbrev pub last_words : LastWords → List Text
+last_words n = n.from ∷ n.to ∷ n.report ∷ []
+
+abbrev pub are_names : LastWords → Bool
+are_names n = list_all is_name (last_words n)
+
+-- ---- the whole line
+
+-- what words mean
+pub data Meaning : Type 0 where
+  encode : Options → LastWords → Meaning
+
+abbrev pub Means : List Text → Meaning → Type 0
+Means ws (encode o n) = (middle : List Text) × (ws ≡ codes "encode" ∷ (middle ++ last_words n)) × EncodePairs middle o × (are_names n ≡ true)
+
+abbrev pub InGrammar : List Text → Type 0
+InGrammar ws = (m : Meaning) × Means ws m
+
+-- words mean one thing
+abbrev pub WordsMeanOneThing : Type 0
+WordsMeanOneThing = (ws : List Text) (m n : Meaning) → Means ws m → Means ws n → m ≡ n

@@ -1,0 +1,4 @@
+pub mod Rates
+pub mod Digits
+pub mod Grammar
+pub mod Asked

@@ -1,0 +1,17 @@
+//! The command line: its words read into a command with its options, and three names.
+//!
+//! The grammar is a relation between the words and what they mean. `names` and `command` answer `Usage`
+//! exactly where the words have no meaning.
+#![tactic(auto)]
+
+mod fault;
+mod laws;
+mod meaning;
+mod number;
+mod read;
+
+pub use fault::WordsFault;
+pub use laws::words_mean_one_thing;
+pub use meaning::{Command, Couple, Names, Options};
+pub use read::{command, names};
+

@@ -1,0 +1,41 @@
+/// The last three words. `-` stands for standard input, standard output, and no report.
+#[derive(Clone, Copy, Debug)]
+pub struct Names<'a> {
+    /// Where the input is read from.
+    pub from: &'a str,
+    /// Where the output is written to.
+    pub to: &'a str,
+    /// Where the report is written to.
+    pub report: &'a str,
+}
+
+/// What is to be done.
+#[derive(Clone, Copy, Debug, PartialEq, Eq)]
+pub enum Command {
+    /// Sound to AC-3.
+    Encode(Options),
+}
+
+/// The options of the encoder.
+#[derive(Clone, Copy, Debug, PartialEq, Eq)]
+pub struct Options {
+    /// The bit rate in kilobits a second, one of the 19 of A/52 table 5.18.
+    pub rate: u16,
+    /// How many nodes the search may open in a frame.
+    pub nodes: u32,
+    /// The bandwidth code chbwcod (A/52 5.4.3.24), 0 to 60, where it is given.
+    pub bw: Option<u8>,
+    /// How the channels are coupled.
+    pub couple: Couple,
+}
+
+/// The use of coupling (A/52 7.4).
+#[derive(Clone, Copy, Debug, PartialEq, Eq)]
+pub enum Couple {
+    /// Never.
+    Off,
+    /// By the bit rate and the number of channels.
+    Auto,
+    /// Over the subbands from cplbegf to cplendf (A/52 5.4.3.11, 5.4.3.12).
+    Bins(u8, u8),
+}

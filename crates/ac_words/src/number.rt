@@ -1,0 +1,55 @@
+ghost use Rattle.std.specs.Prelude.{◌≡◌, ℕ, ◌<◌, ◌^◌, MatchOption, Some, IsTrue};
+ghost use Rattle.std.specs.Fmt.{decimal};
+ghost use Rattle.ac_words.specs.Grammar.{RateOf};
+ghost use Rattle.ac_words.specs.Rates.{is_rate};
+ghost use Rattle.ac_words.specs.Digits.{is_bare_number};
+
+/// The bit rates in kilobits a second (A/52 table 5.18).
+const RATES: [u16; 19] = [
+    32, 40, 48, 56, 64, 80, 96, 112, 128, 160, 192, 224, 256, 320, 384, 448, 512, 576, 640,
+];
+
+/// Whether the text has no plus before it and no leading zero.
+fn is_bare(bytes: &[u8]) -> bool
+    ensures { result ≡ is_bare_number bytes.now }
+{
+    match bytes {
+        [] => false,
+        [first] => *first != b'+',
+        [first, ..] => *first != b'+' && *first != b'0',
+    }
+}
+
+/// The number that the text writes in decimal digits, without a sign or a leading zero.
+fn written(text: &str) -> Option<u64>
+    ensures { MatchOption result ((n : ℕ) → n < 2 ^ 64 → text.now ≡ decimal n → ⊥) (λ n. text.now ≡ decimal n) }
+{
+    if !is_bare(text.as_bytes()) {
+        return None;
+    }
+    match text.parse::<u64>() {
+        Ok(n) => Some(n),
+        Err(_) => None,
+    }
+}
+
+/// The number, where it is a rate.
+#[tactic(auto, unfolding(crate::specs::Rates::is_rate))]
+fn as_rate(number: u64) -> Option<u16>
+    ensures { MatchOption result (IsTrue (is_rate number) → ⊥) (λ rate. (rate ≡ number) × IsTrue (is_rate number)) }
+{
+    match u16::try_from(number) {
+        Ok(rate) if RATES.contains(&rate) => Some(rate),
+        _ => None,
+    }
+}
+
+/// The bit rate that the text writes.
+pub(crate) fn rate_of(text: &str) -> Option<u16>
+    ensures { MatchOption result ((rate : ℕ) → RateOf (Some text.now) rate → ⊥) (RateOf (Some text.now)) }
+{
+    match written(text) {
+        Some(number) => as_rate(number),
+        None => None,
+    }
+}

@@ -1,0 +1,156 @@
+ghost use Rattle.std.specs.Prelude.{◌≡◌, ◌≢◌, ◌<◌, [], ◌∷◌, ◌++◌, length, map, string_bytes, not, MatchOption, IfOk, Err, ℕ};
+ghost use Rattle.std.specs.Str.Parse.{starts_with_minus};
+ghost use Rattle.ac_words.specs.Grammar.{is_name as is_name_text, are_names as are_name_texts, last_words, EncodePairs, Means, InGrammar};
+ghost use Rattle.ac_words.specs.Asked.{texts_of, meaning_of, GivesCommand, GivesNames};
+ghost use Rattle.ac_words.specs.declared.meaning.Options.{Options};
+ghost use Rattle.ac_words.specs.declared.fault.WordsFault.TheVariants.{Usage};
+
+use crate::fault::WordsFault;
+use crate::meaning::{Command, Couple, Names, Options};
+use crate::number::rate_of;
+use std::alloc::Global;
+
+/// The words in three parts.
+#[derive(Clone, Copy)]
+struct Parts<'a> {
+    command: &'a str,
+    pairs: &'a [String],
+    names: Names<'a>,
+}
+
+/// An option and its value.
+#[derive(Clone, Copy)]
+struct Pair<'a> {
+    option: &'a str,
+    value: &'a str,
+}
+
+/// The words' meaning.
+#[derive(Clone, Copy)]
+struct Asked<'a> {
+    command: Command,
+    names: Names<'a>,
+}
+
+/// Whether the word may be a name.
+fn is_name(word: &str) -> bool
+    ensures { result ≡ is_name_text word.now }
+{
+    word == "-" || (!word.is_empty() && !word.starts_with('-'))
+}
+
+/// Whether the last three words may be names.
+fn are_names(names: Names<'_>) -> bool
+    ensures { result ≡ are_name_texts (texts_of names.entry) }
+{
+    is_name(names.from) && is_name(names.to) && is_name(names.report)
+}
+
+/// The command, the pairs and the names; nothing where the words are fewer than four.
+fn parts_of<'a>(words: &'a [String]) -> Option<Parts<'a>>
+    ensures { MatchOption result (length words.entry.now < 4)
+        (λ p. map string_bytes words.entry.now ≡ p.command.now ∷ (map string_bytes p.pairs.now ++ last_words (texts_of p.names))) }
+{
+    match words {
+        [command, pairs @ .., from, to, report] => Some(Parts {
+            command: command.as_str(),
+            pairs,
+            names: Names {
+                from: from.as_str(),
+                to: to.as_str(),
+                report: report.as_str(),
+            },
+        }),
+        _ => None,
+    }
+}
+
+/// The one pair; nothing where the words are not two.
+fn only_pair<'a>(words: &'a [String]) -> Option<Pair<'a>>
+    ensures { MatchOption result (length words.entry.now ≢ 2)
+        (λ p. map string_bytes words.entry.now ≡ p.option.now ∷ p.value.now ∷ []) }
+{
+    match words {
+        [option, value] => Some(Pair {
+            option: option.as_str(),
+            value: value.as_str(),
+        }),
+        _ => None,
+    }
+}
+
+/// The options of encode that the words between the command and the names give.
+fn encode_options(words: &[String]) -> Option<Options>
+    ensures { MatchOption result ((o : Options) → EncodePairs (map string_bytes words.now) o → ⊥) (EncodePairs (map string_bytes words.now)) }
+{
+    let Some(pair) = only_pair(words) else {
+        return None;
+    };
+    if pair.option != "--rate" {
+        return None;
+    }
+    let Some(rate) = rate_of(pair.value) else {
+        return None;
+    };
+    Some(Options {
+        rate,
+        nodes: 20_000,
+        bw: None,
+        couple: Couple::Auto,
+    })
+}
+
+/// What the words mean, where they are in the grammar.
+fn asked_by<'a>(words: &'a [String]) -> Option<Asked<'a>>
+    ensures { MatchOption result (InGrammar (map string_bytes words.entry.now) → ⊥)
+        (λ a. Means (map string_bytes words.entry.now) (meaning_of a.command (texts_of a.names))) }
+{
+    let Some(parts) = parts_of(words) else {
+        return None;
+    };
+    if !are_names(parts.names) {
+        return None;
+    }
+    if parts.command != "encode" {
+        return None;
+    }
+    let Some(options) = encode_options(parts.pairs) else {
+        return None;
+    };
+    Some(Asked {
+        command: Command::Encode(options),
+        names: parts.names,
+    })
+}
+
+/// The names in the words.
+///
+/// # Errors
+///
+/// `Usage` where the words are not in the grammar; `NoMemory` for want of memory.
+pub fn names<'a>(alloc: Global, words: &'a [String]) -> Result<Names<'a>, WordsFault>
+    ensures ok { IfOk result (λ n. GivesNames (map string_bytes words.entry.now) (texts_of n)) }
+    ensures usage { result ≡ Err Usage → InGrammar (map string_bytes words.entry.now) → ⊥ }
+{
+    let _ = alloc;
+    match asked_by(words) {
+        Some(asked) => Ok(asked.names),
+        None => Err(WordsFault::Usage),
+    }
+}
+
+/// The command that the words give, with its options.
+///
+/// # Errors
+///
+/// `Usage` where the words are not in the grammar; `NoMemory` for want of memory.
+pub fn command(alloc: Global, words: &[String]) -> Result<Command, WordsFault>
+    ensures ok { IfOk result (GivesCommand (map string_bytes words.now)) }
+    ensures usage { result ≡ Err Usage → InGrammar (map string_bytes words.now) → ⊥ }
+{
+    let _ = alloc;
+    match asked_by(words) {
+        Some(asked) => Ok(asked.command),
+        None => Err(WordsFault::Usage),
+    }
+}
