@@ -1,13 +1,8 @@
 -- The pairs of encode are one rate, and its words say one thing.
-use Rattle.std.proofs.Common.{◌≡◌, ◌≢◌, ◌∙◌, length, ◌||◌, ◌&&◌, ◌==◌, ◌<◌, ◌≤◌, ◌^◌, ℕ, Bool, not, true, false, refl, sym, ap, arith, List, [], ◌∷◌, ◌++◌, Option, Some, None, codes, true≢false, subst}
-use Rattle.std.specs.Prelude.{IsTrue, nat_le}
-use Rattle.std.specs.List.{list_any, list_all}
+use Rattle.std.proofs.Common.{◌≡◌, ◌≢◌, ◌∙◌, length, ◌||◌, ◌&&◌, ◌<◌, ◌≤◌, ◌^◌, ℕ, Bool, not, true, false, refl, sym, ap, arith, List, [], ◌∷◌, ◌++◌, Option, Some, None, codes, true≢false, subst}
 use Rattle.std.specs.Str.{bytes_eq}
-use Rattle.std.specs.Fmt.{decimal}
-use Rattle.std.proofs.lemmas.Bool.Decides.{nat_tests}
 use Rattle.std.proofs.lemmas.Slice.Eq.{bytes_eq-Decides}
 use Rattle.ac_words.specs.Grammar.{EncodePairs, Pair, RateOf, Says, Text, all_known, encode_known, none_twice, spelled, value_in}
-use Rattle.ac_words.specs.Rates.{is_rate, rates}
 use Rattle.ac_words.specs.declared.meaning.Couple.{Couple}
 use Rattle.ac_words.specs.declared.meaning.Couple.TheVariants.{Auto}
 use Rattle.ac_words.specs.declared.meaning.Options.{Options}

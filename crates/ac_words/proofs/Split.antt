@@ -1,9 +1,9 @@
 -- Words fall into a command, its pairs and the names in one way.
-use Rattle.std.proofs.Common.{◌≡◌, ◌∙◌, ◌<◌, ◌+◌, false, refl, sym, ap, arith, List, [], ◌∷◌, ◌++◌, length, drop, take, codes, true≢false, subst}
+use Rattle.std.proofs.Common.{◌≡◌, ◌∙◌, ◌<◌, ◌+◌, false, refl, sym, ap, arith, List, ◌∷◌, ◌++◌, length, drop, take, codes, true≢false, subst}
 use Rattle.std.specs.List.{list_all}
 use Rattle.std.proofs.lemmas.List.{length-append}
 use Rattle.std.proofs.Math.Seq.{drop-append_seam, take-append_seam}
-use Rattle.ac_words.specs.Grammar.{EncodePairs, Meaning, Means, InGrammar, Text, encode, LastWords, is_name, last_words, WordsMeanOneThing}
+use Rattle.ac_words.specs.Grammar.{EncodePairs, Means, InGrammar, Text, encode, LastWords, is_name, last_words, WordsMeanOneThing}
 use Rattle.ac_words.specs.declared.meaning.Options.{Options}
 use Rattle.ac_words.proofs.Pairs.{pairs_one}
 

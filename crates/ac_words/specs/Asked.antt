@@ -1,5 +1,5 @@
 -- What the answers of the code say of the words' meaning.
-use Rattle.std.specs.Prelude.{◌≡◌, List}
+use Rattle.std.specs.Prelude.{List}
 use Rattle.ac_words.specs.Grammar.{Text, Meaning, encode, LastWords, Means}
 use Rattle.ac_words.specs.declared.meaning.Command.{Command}
 use Rattle.ac_words.specs.declared.meaning.Command.TheVariants.{Encode}

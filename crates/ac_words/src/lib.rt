@@ -15,3 +15,5 @@ pub use laws::words_mean_one_thing;
 pub use meaning::{Command, Couple, Names, Options};
 pub use read::{command, names};
 
+#[cfg(test)]
+mod tests;
