@@ -1,0 +1,30 @@
+-- The report: a line for each frame, and the status line. Each line ends with a line feed.
+use Rattle.std.specs.Prelude.{ℕ, zero, suc, List, [], ◌++◌, codes, decimal}
+use Rattle.ac_app.specs.declared.status.WavKind.{WavKind}
+use Rattle.ac_app.specs.declared.status.WavKind.TheVariants as kinds
+use Rattle.ac_app.specs.declared.status.Status.{Status}
+use Rattle.ac_app.specs.declared.status.Status.TheVariants as statuses
+
+-- `frame I size Z base`: the frame's number, and its size in bytes
+abbrev pub frame_line : ℕ → ℕ → List ℕ
+frame_line i size = codes "frame " ++ decimal i ++ codes " size " ++ decimal size ++ codes " base\n"
+
+abbrev pub kind_word : WavKind → List ℕ
+kind_word kinds.Short = codes "short "
+kind_word kinds.NotYet = codes "notyet "
+
+abbrev pub status_line : Status → List ℕ
+status_line statuses.Ok = codes "status 0 ok\n"
+status_line statuses.Usage = codes "status 1 usage\n"
+status_line (statuses.BadWav kind place) = codes "status 2 bad wav " ++ kind_word kind ++ decimal place ++ codes "\n"
+status_line statuses.ReadFault = codes "status 6 read fault\n"
+status_line statuses.WriteFault = codes "status 7 write fault\n"
+status_line statuses.NoMemory = codes "status 9 no memory\n"
+
+abbrev pub code_of : Status → ℕ
+code_of statuses.Ok = 0
+code_of statuses.Usage = 1
+code_of (statuses.BadWav kind place) = 2
+code_of statuses.ReadFault = 6
+code_of statuses.WriteFault = 7
+code_of statuses.NoMemory = 9

@@ -1,0 +1,45 @@
+//! How a command ended.
+ghost use Rattle.std.specs.Prelude.{◌≡◌};
+ghost use Rattle.ac_app.specs.Lines.{code_of};
+
+/// Why a WAV is refused.
+#[derive(Clone, Copy, Debug, PartialEq, Eq)]
+pub enum WavKind {
+    /// The input ends inside its head or inside its data; the place is its number of bytes.
+    Short,
+    /// The head has another form than the one that is read so far; the place is 0.
+    NotYet,
+}
+
+/// How a command ended.
+#[derive(Clone, Copy, Debug, PartialEq, Eq)]
+pub enum Status {
+    /// The job was done to its end.
+    Ok,
+    /// The words are outside the grammar.
+    Usage,
+    /// The input is refused, for this reason and at this place in bytes from its start.
+    BadWav(WavKind, u64),
+    /// The input failed.
+    ReadFault,
+    /// The output or the report failed.
+    WriteFault,
+    /// Memory was wanting.
+    NoMemory,
+}
+
+impl Status {
+    /// The program's exit code.
+    pub fn code(&self) -> u8
+        ensures { result ≡ code_of self.now }
+    {
+        match self {
+            Status::Ok => 0,
+            Status::Usage => 1,
+            Status::BadWav(_, _) => 2,
+            Status::ReadFault => 6,
+            Status::WriteFault => 7,
+            Status::NoMemory => 9,
+        }
+    }
+}
