@@ -1,6 +1,6 @@
 -- The plain head: RIFF WAVE with linear PCM, one channel of 16 bits at 48 kHz, and the data behind 44 bytes.
 -- Numbers are little endian.
-use Rattle.std.specs.Prelude.{◌≡◌, ℕ, ◌+◌, ◌-◌, ◌^◌, ◌<◌, ◌≤◌, List, length, take, drop, codes, ◌⊎◌, Option, Some}
+use Rattle.std.specs.Prelude.{◌≡◌, ℕ, ◌+◌, ◌-◌, ◌^◌, ◌<◌, ◌≤◌, List, length, take, drop, codes, ◌⊎◌, ◌++◌, Option, Some, None}
 use Rattle.byteorder.specs.Endian.{little_number}
 use Rattle.ac_app.specs.declared.status.WavKind.{WavKind}
 use Rattle.ac_app.specs.declared.status.WavKind.TheVariants.{Short, NotYet}
@@ -79,3 +79,21 @@ pub record HeadRead (bytes : List ℕ) (size : ℕ) (left_now : Option (List ℕ
   pub long : 44 ≤ length bytes
   pub stated : size ≡ data_size bytes
   pub left : left_now ≡ Some (drop 44 bytes)
+
+-- these bytes were taken from the front, where the source tells its bytes
+abbrev pub Took : Option (List ℕ) → Option (List ℕ) → List ℕ → Type 0
+Took None left_now taken = Unit {0}
+Took (Some bytes) left_now taken = (rest : List ℕ) × (left_now ≡ Some rest) × (taken ++ rest ≡ bytes)
+
+-- the first `size` bytes were taken
+pub record Gathered (bytes : List ℕ) (size : ℕ) (taken : List ℕ) (left_now : Option (List ℕ)) : Type 0 where
+  pub long : size ≤ length bytes
+  pub taken_all : taken ≡ take size bytes
+  pub left : left_now ≡ Some (drop size bytes)
+
+-- why the first `size` bytes of the data weren't gathered
+abbrev pub IsUngathered : List ℕ → ℕ → WavFault → Type 0
+IsUngathered bytes size (Bad Short place) = (place ≡ 44 + length bytes) × (length bytes < size)
+IsUngathered bytes size (Bad NotYet place) = ⊥
+IsUngathered bytes size ReadFault = Unit {0}
+IsUngathered bytes size NoMemory = Unit {0}
