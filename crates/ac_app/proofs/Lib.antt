@@ -1,2 +1,4 @@
 pub mod Heads
 pub mod Datas
+pub mod Samples
+pub mod Places

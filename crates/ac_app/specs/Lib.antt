@@ -1,3 +1,5 @@
 pub mod Head
 pub mod Lines
 pub mod Sound
+pub mod Stream
+pub mod World

@@ -1,0 +1,17 @@
+use Rattle.std.proofs.Common.{◌∙◌, ◌≤◌, arith, length}
+use Rattle.std.proofs.lemmas.List.{length-take-le}
+use Rattle.ac_app.proofs.Places.{frame_at, last_next, last_bound}
+use Rattle.ac_app.proofs.frames.encode.Goals as goal
+
+pub returns-clause-long : goal.returns-clause-long
+returns-clause-long c =
+    let within : c.frame-size.result ≤ length c.frame-size.new.out = omega (arith, c.frame-size.ensures.most, c.frame-size.array_long) in
+    length-take-le c.frame-size.result c.frame-size.new.out within ∙ c.frame-size.ensures.size
+
+pub returns-clause-frame : goal.returns-clause-frame
+returns-clause-frame c = λ bytes i before lists.
+    (frame_at c.args.rate bytes i c.args.last.now c.args.pcm.now _ c.told-last before lists c.frame-size.ensures.frame,
+     last_next bytes i c.args.pcm.now c.keep_last.new.last c.keep_last.ensures lists)
+
+pub returns-clause-bound : goal.returns-clause-bound
+returns-clause-bound c = last_bound c.args.pcm.now c.keep_last.new.last c.keep_last.ensures c.requires.pcm
