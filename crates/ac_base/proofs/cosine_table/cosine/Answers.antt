@@ -2,7 +2,7 @@ use Rattle.std.proofs.Common.{◌≡◌, ◌-◌, arith, ap, ◌∙◌, sym}
 use Rattle.std.proofs.lemmas.Int.{ints}
 use Rattle.ac_base.specs.Cosine.{half_wave, cosine_at}
 use Rattle.ac_base.proofs.Waves.{cosine_is, half_low, half_high, quarter_bound}
-use Rattle.ac_base.proofs.cosine.Goals as goal
+use Rattle.ac_base.proofs.cosine_table.cosine.Goals as goal
 
 pub negated-requires : goal.negated-requires
 negated-requires c =

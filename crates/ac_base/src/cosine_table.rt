@@ -1,7 +1,12 @@
-// The quarter table of cosines, written out.
-ghost use Rattle.std.specs.Prelude.{◌≡◌, ◌<◌, ◌≤◌, ◌^◌, ℕ, pos, unsigned_abs, slice_index_or};
+//! The cosines of the transforms, of scale 2^30 and period 2048, by their quarter table.
+ghost use Rattle.std.specs.Prelude.{◌≡◌, ◌<◌, ◌≤◌, ◌^◌, ◌+◌, ◌*◌, ◌-◌, ◌/◌, ◌%◌, ℕ, ℤ, pos, neg_ℤ, min, unsigned_abs, slice_index_or};
+ghost use Rattle.ac_base.specs.Quarter.{root, half, angle, pair_at, cosine_of};
 ghost use Rattle.ac_base.specs.Cosine.{quarter_of, IsQuarter, cosine_at};
-ghost use Rattle.ac_base.specs.Sigma.{Within};
+
+use crate::numbers::isqrt;
+
+/// One, of scale 2^60.
+const ONE: u64 = 1 << 60;
 
 static QUARTER: [i32; 513] = [
     1073741824, 1073736771, 1073721611, 1073696345, 1073660973, 1073615496, 1073559913, 1073494225,
@@ -70,7 +75,88 @@ static QUARTER: [i32; 513] = [
     16470347, 13176464, 9882456, 6588356, 3294193, 0,
 ];
 
-/// The quarter table, by reference: nothing is computed.
+fn root_of(x: u128) -> u64
+    ensures value { result ≡ root 64 x }
+    ensures bound { x ≤ 2 ^ 120 → result ≤ 2 ^ 60 }
+{
+    isqrt(x)
+}
+
+#[tactic(auto, using(crate::proofs::Rules::half_more))]
+fn step_angle() -> u64
+    ensures value { result ≡ angle }
+    ensures bound { result ≤ 2 ^ 60 }
+{
+    let mut h: u64 = 0;
+    for _turn in 0..9u32 {
+        h = root_of((u128::from(ONE) + u128::from(h)) << 59);
+    }
+    h
+}
+
+fn next(angle_: u64, before: u64, now: u64) -> u64
+    requires angle { angle_ ≤ 2 ^ 60 }
+    requires now { now ≤ 2 ^ 60 }
+    ensures { result ≡ min (2 * angle_ * now / 2 ^ 60 - before) (2 ^ 60) }
+{
+    let product = (2 * u128::from(angle_) * u128::from(now)) >> 60;
+    (product as u64).saturating_sub(before).min(ONE)
+}
+
+fn rounded(t: u64) -> i32
+    requires { t ≤ 2 ^ 60 }
+    ensures { result ≡ pos ((t + 2 ^ 29) / 2 ^ 30) }
+{
+    ((t + (1 << 29)) >> 30) as i32
+}
+
+/// The quarter table by its recurrence: entry j is the cosine of phase j, for j up to 512.
+pub fn cosines() -> [i32; 513]
+    ensures { IsQuarter result }
+{
+    let step = step_angle();
+    let mut table = [0i32; 513];
+    let mut before = ONE;
+    let mut now = step;
+    for j in 0..512 {
+        table[j] = rounded(before);
+        let after = next(step, before, now);
+        before = now;
+        now = after;
+    }
+    table
+}
+
+fn negated(v: i32) -> i32
+    requires { unsigned_abs v ≤ 2 ^ 30 }
+    ensures { result ≡ neg_ℤ v }
+{
+    -v
+}
+
+fn half_phase(phase: u32) -> u32
+    ensures value { let r = phase % 2048 in result ≡ min r (2048 - r) }
+    ensures bound { result ≤ 1024 }
+{
+    let r = phase % 2048;
+    r.min(2048 - r)
+}
+
+/// The cosine of a phase, of scale 2^30 and period 2048, from the quarter table.
+pub fn cosine(table: &[i32; 513], phase: u32) -> i32
+    requires { IsQuarter table.now }
+    ensures value { result ≡ cosine_at phase }
+    ensures bound { unsigned_abs result ≤ 2 ^ 30 }
+{
+    let q = half_phase(phase);
+    if q <= 512 {
+        table[q as usize]
+    } else {
+        negated(table[(1024 - q) as usize])
+    }
+}
+
+/// The quarter table by reference: nothing is computed.
 pub fn quarter() -> &'static [i32; 513]
     ensures { IsQuarter result.now }
 {

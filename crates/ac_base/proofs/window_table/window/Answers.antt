@@ -1,7 +1,7 @@
 use Rattle.std.proofs.Common.{◌<◌, arith}
 use Rattle.std.proofs.lemmas.Int.{ints}
 use Rattle.ac_base.proofs.HalfWindow.{window_bound}
-use Rattle.ac_base.proofs.shaped.window.Goals as goal
+use Rattle.ac_base.proofs.window_table.window.Goals as goal
 
 pub returns-clause-bound : goal.returns-clause-bound
 returns-clause-bound c =

@@ -1,6 +1,6 @@
 use Rattle.std.proofs.Common.{◌≡◌, ◌≤◌, ◌^◌, length, pos, slice_index_or}
 use Rattle.ac_base.specs.Quarter.{pair_at, Holds}
-use Rattle.ac_base.proofs.cosines.Given as goal
+use Rattle.ac_base.proofs.cosine_table.cosines.Given as goal
 
 abbrev pub invariant-loop-j : goal.invariant-loop-j
 invariant-loop-j l =

@@ -1,7 +1,7 @@
 use Rattle.std.proofs.Common.{◌≡◌, sym, ◌∙◌, ap, arith}
 use Rattle.ac_base.specs.Quarter.{half}
 use Rattle.ac_base.proofs.Rules.{half_zero, angle_is}
-use Rattle.ac_base.proofs.step_angle.Goals as goal
+use Rattle.ac_base.proofs.cosine_table.step_angle.Goals as goal
 
 pub loop-turn-init : goal.loop-turn-init
 loop-turn-init c = (sym half_zero, omega arith)

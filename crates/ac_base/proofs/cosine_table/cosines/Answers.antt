@@ -3,7 +3,7 @@ use Rattle.std.proofs.lemmas.Int.{ints}
 use Rattle.ac_base.specs.Quarter.{cosine_of, Holds}
 use Rattle.ac_base.proofs.Rules.{pair_zero, pair_one, pair_more, pair_next, cosine_is, holds_more}
 use Rattle.ac_base.proofs.Walk.{quarter_held}
-use Rattle.ac_base.proofs.cosines.Goals as goal
+use Rattle.ac_base.proofs.cosine_table.cosines.Goals as goal
 
 pub loop-j-init : goal.loop-j-init
 loop-j-init c =

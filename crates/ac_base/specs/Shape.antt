@@ -1,0 +1,60 @@
+-- The shape of a frame as plain numbers, its coded channels and their bins (A/52 5.4.2.3, 5.4.3.11, 5.4.3.12, 7.1.3).
+-- A coupling is a pair of cplbegf and cplendf.
+use Rattle.std.specs.Prelude.{ℕ, ◌+◌, ◌*◌, ◌≤◌, Bool, nat_lt, nat_eq, is_some, if◌then◌else◌, Option, Some, None, [], ◌∷◌, slice_index}
+use Rattle.std.specs.Option.{ForSome}
+use Rattle.ac_base.specs.declared.spans.Span.{Span}
+use Rattle.ac_base.specs.declared.spans.Lead.TheVariants.{Free, Coupled, Coupling, Low}
+
+-- a coupling needs two full channels, and has at least one subband
+abbrev pub IsCoupling : ℕ → Option (ℕ × ℕ) → Type 0
+IsCoupling acmod couple = ForSome couple (λ p. (2 ≤ acmod) × (p.0 ≤ 15) × (p.1 ≤ 15) × (p.0 ≤ p.1 + 2))
+
+-- fscod, acmod, chbwcod, the coupling and the words of a frame
+abbrev pub IsShape : ℕ → ℕ → ℕ → Option (ℕ × ℕ) → ℕ → Type 0
+IsShape fscod acmod bw couple words =
+    (fscod ≤ 2) × (1 ≤ acmod) × (acmod ≤ 7) × (bw ≤ 60) × (64 ≤ words) × (words ≤ 1920) × IsCoupling acmod couple
+
+-- the full-bandwidth channels, by acmod (A/52 Table 5.8)
+abbrev pub full_of : ℕ → ℕ
+full_of acmod = slice_index (2 ∷ 1 ∷ 2 ∷ 3 ∷ 3 ∷ 4 ∷ 4 ∷ 5 ∷ []) acmod
+
+-- 1 where the row or channel is there
+abbrev pub count_of : Bool → ℕ
+count_of there = if there then 1 else 0
+
+-- the coded channels: the full ones in coding order, then the coupling channel, then LFE
+abbrev pub coded_of : ℕ → Bool → Option (ℕ × ℕ) → ℕ
+coded_of acmod lfe couple = full_of acmod + count_of (is_some couple) + count_of lfe
+
+-- the first bin of the coupling channel
+abbrev pub coupling_start : ℕ → ℕ
+coupling_start cplbegf = 37 + 12 * cplbegf
+
+-- the bin behind the last of the coupling channel
+abbrev pub coupling_end : ℕ → ℕ
+coupling_end cplendf = 37 + 12 * (cplendf + 3)
+
+-- the bin behind the last of a full channel that isn't coupled
+abbrev pub end_of : ℕ → ℕ
+end_of chbwcod = 37 + 3 * (chbwcod + 12)
+
+-- the bins of a full channel
+abbrev pub full_span : ℕ → Option (ℕ × ℕ) → Span
+full_span bw None = record { start = 0; end = end_of bw; lead = Free }
+full_span bw (Some p) = record { start = 0; end = coupling_start p.0; lead = Coupled }
+
+-- the bins of LFE
+abbrev pub low_span : Span
+low_span = record { start = 0; end = 7; lead = Low }
+
+-- the bins of the channel behind the full ones
+abbrev pub next_span : Option (ℕ × ℕ) → Span
+next_span None = low_span
+next_span (Some p) = record { start = coupling_start p.0; end = coupling_end p.1; lead = Coupling }
+
+-- the bins of coded channel c
+abbrev pub span_of : ℕ → ℕ → Option (ℕ × ℕ) → ℕ → Span
+span_of acmod bw couple c =
+    if nat_lt c (full_of acmod) then full_span bw couple
+    else if nat_eq c (full_of acmod) then next_span couple
+    else low_span
