@@ -110,3 +110,6 @@ impl Shape {
         }
     }
 }
+
+#[cfg(test)]
+mod tests;
