@@ -71,6 +71,7 @@ fn later_block_bits(shape: &Shape) -> u32
 
 /// The bits of each part's rows, without exponents, chbwcod, gainrng, skip bytes and mantissas
 /// (A/52 5.3): the head with block 0 and one later block, the whole frame, and nothing.
+#[tactic(auto, unfolding(crate::specs::SideBits::side_front, crate::specs::SideBits::side_total))]
 pub fn side_bits(shape: &Shape) -> Parts
     ensures front { result.front ≡ side_front shape.now.acmod shape.now.lfe shape.now.couple }
     ensures total { result.total ≡ side_total shape.now.acmod shape.now.lfe shape.now.couple }
