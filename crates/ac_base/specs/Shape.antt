@@ -1,8 +1,9 @@
 -- The shape of a frame as plain numbers, its coded channels and their bins (A/52 5.4.2.3, 5.4.3.11, 5.4.3.12, 7.1.3).
 -- A coupling is a pair of cplbegf and cplendf.
-use Rattle.std.specs.Prelude.{ℕ, ◌+◌, ◌*◌, ◌≤◌, Bool, nat_lt, nat_eq, is_some, if◌then◌else◌, Option, Some, None, [], ◌∷◌, slice_index}
+use Rattle.std.specs.Prelude.{ℕ, ◌≡◌, ◌+◌, ◌*◌, ◌≤◌, Bool, nat_lt, nat_eq, is_some, if◌then◌else◌, Option, Some, None, [], ◌∷◌, slice_index}
 use Rattle.std.specs.Option.{ForSome}
 use Rattle.ac_base.specs.declared.spans.Span.{Span}
+use Rattle.ac_base.specs.declared.spans.Lead.{Lead}
 use Rattle.ac_base.specs.declared.spans.Lead.TheVariants.{Free, Coupled, Coupling, Low}
 
 -- a coupling needs two full channels, and has at least one subband
@@ -58,3 +59,16 @@ span_of acmod bw couple c =
     if nat_lt c (full_of acmod) then full_span bw couple
     else if nat_eq c (full_of acmod) then next_span couple
     else low_span
+
+-- the bins of a channel of some shape, by what it is
+abbrev pub IsSpanOf : Lead → ℕ → ℕ → Type 0
+IsSpanOf Free start end = (start ≡ 0) × ((chbwcod : ℕ) × (chbwcod ≤ 60) × (end ≡ end_of chbwcod))
+IsSpanOf Coupled start end = (start ≡ 0) × ((cplbegf : ℕ) × (cplbegf ≤ 15) × (end ≡ coupling_start cplbegf))
+IsSpanOf Coupling start end =
+    (cplbegf : ℕ) × (cplendf : ℕ) × (cplbegf ≤ 15) × (cplendf ≤ 15) × (cplbegf ≤ cplendf + 2)
+    × (start ≡ coupling_start cplbegf) × (end ≡ coupling_end cplendf)
+IsSpanOf Low start end = (start ≡ 0) × (end ≡ 7)
+
+-- the span of a coded channel
+abbrev pub IsSpan : Span → Type 0
+IsSpan s = IsSpanOf s.lead s.start s.end

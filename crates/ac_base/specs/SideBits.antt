@@ -128,12 +128,12 @@ tail_rows =
     []
 
 -- the side bits up to the end of block 1
-abbrev pub side_front : ℕ → Bool → Option (ℕ × ℕ) → ℕ
+unfoldable pub side_front : ℕ → Bool → Option (ℕ × ℕ) → ℕ
 side_front acmod lfe couple =
     sum (head_rows acmod) + sum (first_block_rows acmod lfe couple) + sum (later_block_rows acmod lfe couple)
 
 -- the side bits of the frame
-abbrev pub side_total : ℕ → Bool → Option (ℕ × ℕ) → ℕ
+unfoldable pub side_total : ℕ → Bool → Option (ℕ × ℕ) → ℕ
 side_total acmod lfe couple =
     sum (head_rows acmod) + sum (first_block_rows acmod lfe couple) + 5 * sum (later_block_rows acmod lfe couple) + sum tail_rows
 

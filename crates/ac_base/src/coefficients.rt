@@ -20,3 +20,6 @@ impl Coefs {
         *zeros
     }
 }
+
+#[cfg(test)]
+mod tests;

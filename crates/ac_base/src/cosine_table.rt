@@ -162,3 +162,6 @@ pub fn quarter() -> &'static [i32; 513]
 {
     &QUARTER
 }
+
+#[cfg(test)]
+mod tests;

@@ -78,3 +78,6 @@ pub fn dot<const N: usize>(a: &[i32; N], b: &[i32; N]) -> i64
     }
     sum
 }
+
+#[cfg(test)]
+mod tests;

@@ -22,3 +22,6 @@ pub fn rate(code: u8) -> u16
 {
     entry(code)
 }
+
+#[cfg(test)]
+mod tests;

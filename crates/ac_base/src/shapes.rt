@@ -1,7 +1,7 @@
 //! The shape of a frame: its rate of sampling, channels, bandwidth, coupling and size.
 ghost use Rattle.std.specs.Prelude.{◌≡◌, ◌<◌, ◌≤◌, ◌+◌, ◌*◌, ◌↔◌, ℕ, Option, Some, None, IsSome, IfSome};
 ghost use Rattle.std.specs.Option.{ForSome};
-ghost use Rattle.ac_base.specs.Shape.{IsShape, IsCoupling, full_of, coded_of, span_of};
+ghost use Rattle.ac_base.specs.Shape.{IsShape, IsCoupling, full_of, coded_of, span_of, IsSpan};
 
 use crate::spans::{Span, coupled_span, coupling_span, free_span, low_span};
 
@@ -30,13 +30,13 @@ pub struct Shape {
     pub couple: Option<(u8, u8)>,
     /// The size of the frame in words of 16 bits, from 64 to 1920.
     pub words: u16,
-    ghost sampling: { fscod ≤ 2 },
-    ghost some_channel: { 1 ≤ acmod },
-    ghost channels: { acmod ≤ 7 },
-    ghost bandwidth: { bw ≤ 60 },
-    ghost coupling: { IsCoupling acmod couple },
-    ghost least_size: { 64 ≤ words },
-    ghost most_size: { words ≤ 1920 },
+    pub ghost sampling: { fscod ≤ 2 },
+    pub ghost some_channel: { 1 ≤ acmod },
+    pub ghost channels: { acmod ≤ 7 },
+    pub ghost bandwidth: { bw ≤ 60 },
+    pub ghost coupling: { IsCoupling acmod couple },
+    pub ghost least_size: { 64 ≤ words },
+    pub ghost most_size: { words ≤ 1920 },
 }
 
 impl Shape {
@@ -98,6 +98,7 @@ impl Shape {
     pub fn span(&self, c: u8) -> Span
         requires { c < coded_of self.now.acmod self.now.lfe self.now.couple }
         ensures value { result ≡ span_of self.now.acmod self.now.bw self.now.couple c }
+        ensures coded { IsSpan result }
         ensures some { result.start < result.end }
         ensures most { result.end ≤ 253 }
     {
@@ -110,3 +111,6 @@ impl Shape {
         }
     }
 }
+
+#[cfg(test)]
+mod tests;

@@ -1,6 +1,6 @@
 //! The side bits of a frame: the rows of its syntax other than exponents and mantissas.
 ghost use Rattle.std.specs.Prelude.{◌≡◌, ◌≤◌, ◌<◌, ◌+◌, ◌*◌, ℕ, Bool, Option, sum};
-ghost use Rattle.ac_base.specs.Shape.{IsShape};
+ghost use Rattle.ac_base.specs.Shape.{IsCoupling};
 ghost use Rattle.ac_base.specs.SideBits.{head_rows, first_block_rows, later_block_rows, side_front, side_total, subbands, rematrix_bands, is_stereo, when, head_formula, first_block_formula, later_block_formula};
 
 use crate::shapes::Shape;
@@ -71,6 +71,7 @@ fn later_block_bits(shape: &Shape) -> u32
 
 /// The bits of each part's rows, without exponents, chbwcod, gainrng, skip bytes and mantissas
 /// (A/52 5.3): the head with block 0 and one later block, the whole frame, and nothing.
+#[tactic(auto, unfolding(crate::specs::SideBits::side_front, crate::specs::SideBits::side_total))]
 pub fn side_bits(shape: &Shape) -> Parts
     ensures front { result.front ≡ side_front shape.now.acmod shape.now.lfe shape.now.couple }
     ensures total { result.total ≡ side_total shape.now.acmod shape.now.lfe shape.now.couple }
@@ -85,11 +86,14 @@ pub fn side_bits(shape: &Shape) -> Parts
     }
 }
 
-/// The rows' sums in closed form, for every shape.
+/// The sums of the rows in closed form, at every layout and coupling.
 pub fn side_bits_law()
     ensures head { (acmod : ℕ) → 1 ≤ acmod → acmod ≤ 7 → sum (head_rows acmod) ≡ head_formula acmod }
-    ensures first { (fscod acmod bw words : ℕ) → (lfe : Bool) → (couple : Option (ℕ × ℕ)) → IsShape fscod acmod bw couple words →
+    ensures first { (acmod : ℕ) → (lfe : Bool) → (couple : Option (ℕ × ℕ)) → 1 ≤ acmod → acmod ≤ 7 → IsCoupling acmod couple →
         sum (first_block_rows acmod lfe couple) ≡ first_block_formula acmod lfe couple }
-    ensures later { (fscod acmod bw words : ℕ) → (lfe : Bool) → (couple : Option (ℕ × ℕ)) → IsShape fscod acmod bw couple words →
+    ensures later { (acmod : ℕ) → (lfe : Bool) → (couple : Option (ℕ × ℕ)) → 1 ≤ acmod → acmod ≤ 7 → IsCoupling acmod couple →
         sum (later_block_rows acmod lfe couple) ≡ later_block_formula acmod lfe couple }
 {}
+
+#[cfg(test)]
+mod tests;

@@ -72,3 +72,6 @@ pub fn frame_words(rate: u16, fscod: u8, frame: u64) -> u16
         _ => 3 * rate,
     }
 }
+
+#[cfg(test)]
+mod tests;

@@ -39,3 +39,6 @@ pub fn window(n: u16) -> i32
 {
     i32::from(half(usize::from(n.min(511 - n))))
 }
+
+#[cfg(test)]
+mod tests;
