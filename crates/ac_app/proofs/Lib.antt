@@ -2,3 +2,5 @@ pub mod Heads
 pub mod Datas
 pub mod Samples
 pub mod Places
+pub mod Streams
+pub mod Jobs

@@ -3,3 +3,4 @@ pub mod Lines
 pub mod Sound
 pub mod Stream
 pub mod World
+pub mod Run

@@ -1,8 +1,8 @@
-use Rattle.std.specs.Prelude.{◌≡◌, ℕ, ◌*◌, ◌≤◌, List, ◌++◌, slice_index, slice_index_or, ℤ, pos}
-use Rattle.ac_base.specs.Rates.{rates}
+use Rattle.std.specs.Prelude.{◌≡◌, ℕ, ◌*◌, ◌≤◌, List, ◌++◌, slice_index, slice_index_or, ℤ, pos, IsTrue}
+use Rattle.ac_words.specs.Rates.{is_rate}
 
 abbrev pub IsRate : ℕ → Type 0
-IsRate rate = rate ≤ 640
+IsRate rate = IsTrue (is_rate rate)
 
 abbrev pub joined : List ℤ → List ℤ → ℕ → ℤ
 joined last pcm p = slice_index_or (last ++ pcm) p (pos 0)

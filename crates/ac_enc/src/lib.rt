@@ -18,5 +18,5 @@ pub fn frame(rate: u16, last: &[i32; 256], pcm: &[i32; 1536], out: &mut [u8; 384
     let _ = last;
     let _ = pcm;
     let _ = out;
-    4 * usize::from(rate)
+    4 * usize::from(rate.min(640))
 }

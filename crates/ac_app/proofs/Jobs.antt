@@ -1,0 +1,41 @@
+-- From the words and the encode to the job.
+use Rattle.std.proofs.Common.{◌≡◌, ℕ, List, Option, Some, None, refl, subst, sym, inl, inr}
+use Rattle.std.specs.Prelude.{IsTrue, codes}
+use Rattle.ac_words.specs.Grammar.{Text, LastWords, Means, encode, InGrammar, RateOf, value_in}
+use Rattle.ac_words.specs.Asked.{GivesCommand, meaning_of}
+use Rattle.ac_words.specs.declared.meaning.Command.{Command}
+use Rattle.ac_words.specs.declared.meaning.Command.TheVariants.{Encode}
+use Rattle.ac_enc.specs.Frame.{IsRate}
+use Rattle.ac_app.specs.declared.status.Status.{Status}
+use Rattle.ac_app.specs.declared.status.Status.TheVariants as statuses
+use Rattle.ac_app.specs.World.{Held, Holds}
+use Rattle.ac_app.specs.Run.{rate_asked, AsksEncode, EncodeTakes, EncodeGives, JobTakes, JobGives}
+
+pub asks : (ws : List Text) (c : Command) (rate : ℕ) → rate ≡ rate_asked c → GivesCommand ws c → AsksEncode ws rate
+asks ws (Encode o) rate e h = (o, h.0, h.1, e)
+
+pub in_grammar : (ws : List Text) (c : Command) → GivesCommand ws c → InGrammar ws
+in_grammar ws c h = (meaning_of c h.0, h.1)
+
+rate_in : (value : Option Text) (rate : ℕ) → RateOf value rate → IsRate rate
+rate_in None rate h = absurd h
+rate_in (Some text) rate h = h.1
+
+pub is_rate_asked : (ws : List Text) (c : Command) (rate : ℕ) → rate ≡ rate_asked c → GivesCommand ws c → IsRate rate
+is_rate_asked ws (Encode o) rate e h = subst IsRate (sym e) (rate_in (value_in (codes "rate") h.1.2.pairs) o.rate h.1.2.says.rate_is)
+
+pub job_takes : (ws : List Text) (status : Status) (bytes : List ℕ) (left : Option (List ℕ)) → InGrammar ws → EncodeTakes status bytes left → JobTakes ws status bytes left
+job_takes ws statuses.Ok bytes left g h = (g, h)
+job_takes ws statuses.Usage bytes left g h = absurd h
+job_takes ws (statuses.BadWav kind place) bytes left g h = (g, h)
+job_takes ws statuses.ReadFault bytes left g h = (g, h)
+job_takes ws statuses.WriteFault bytes left g h = (g, h)
+job_takes ws statuses.NoMemory bytes left g h = tt
+
+pub job_gives : (ws : List Text) (rate : ℕ) (status : Status) (bytes : List ℕ) (h : Held) (out said : Option (List ℕ)) → AsksEncode ws rate → EncodeGives rate status bytes h out said → JobGives ws status bytes h out said
+job_gives ws rate statuses.Ok bytes h out said a e = (rate, a, e)
+job_gives ws rate statuses.Usage bytes h out said a e = absurd e
+job_gives ws rate (statuses.BadWav kind place) bytes h out said a e = (rate, a, e)
+job_gives ws rate statuses.ReadFault bytes h out said a e = (rate, a, e)
+job_gives ws rate statuses.WriteFault bytes h out said a e = (rate, a, e)
+job_gives ws rate statuses.NoMemory bytes h out said a e = e

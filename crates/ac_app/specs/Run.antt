@@ -1,0 +1,105 @@
+-- What a run leaves, by its answer.
+use Rattle.std.specs.Prelude.{◌≡◌, ◌⊎◌, ℕ, ◌+◌, ◌<◌, Bool, true, false, List, ◌++◌, take, length, Option, Some}
+use Rattle.ac_words.specs.Grammar.{Text, LastWords, Means, encode, InGrammar}
+use Rattle.ac_words.specs.declared.meaning.Command.{Command}
+use Rattle.ac_words.specs.declared.meaning.Command.TheVariants.{Encode}
+use Rattle.ac_words.specs.declared.meaning.Options.{Options}
+use Rattle.ac_app.specs.declared.status.Status.{Status}
+use Rattle.ac_app.specs.declared.status.Status.TheVariants.{Ok, Usage, BadWav, ReadFault, WriteFault, NoMemory}
+use Rattle.ac_app.specs.Head.{IsPlainWav, data_of, behind, Refuses}
+use Rattle.ac_app.specs.Lines.{status_line}
+use Rattle.ac_app.specs.Sound.{sample_count, frame_count}
+use Rattle.ac_app.specs.Stream.{IsStream, frame_lines}
+use Rattle.ac_app.specs.World.{Held, Holds, Frames, OutputFailed, ReportFailed}
+
+-- ---- the frames of the data
+
+-- the number of frames that stand for the data
+abbrev pub frames_of : List ℕ → ℕ
+frames_of bytes = frame_count (sample_count bytes)
+
+-- after k whole frames and their lines a write failed
+abbrev pub Broke : ℕ → List ℕ → Held → Option (List ℕ) → Option (List ℕ) → Type 0
+Broke rate bytes h out said =
+    (k : ℕ) × (k < frames_of bytes) × ((after : Held) × Frames rate bytes k h after
+    × (OutputFailed rate bytes k after out said ⊎ ReportFailed rate bytes k after out said))
+
+-- what writing the frames of the data leaves
+abbrev pub StreamLeaves : ℕ → List ℕ → Status → Held → Option (List ℕ) → Option (List ℕ) → Type 0
+StreamLeaves rate bytes Ok h out said = (after : Held) × Frames rate bytes (frames_of bytes) h after × Holds after out said
+StreamLeaves rate bytes WriteFault h out said = Broke rate bytes h out said
+StreamLeaves rate bytes _ h out said = ⊥
+
+-- ---- the command encode
+
+-- what encode takes of the input: all of its data but for a refusal, which the bytes ask for
+abbrev pub EncodeTakes : Status → List ℕ → Option (List ℕ) → Type 0
+EncodeTakes Ok bytes left = IsPlainWav bytes × (left ≡ Some (behind bytes))
+EncodeTakes Usage bytes left = ⊥
+EncodeTakes (BadWav kind place) bytes left = Refuses bytes kind place
+EncodeTakes ReadFault bytes left = Unit {0}
+EncodeTakes WriteFault bytes left = IsPlainWav bytes × (left ≡ Some (behind bytes))
+EncodeTakes NoMemory bytes left = Unit {0}
+
+-- what encode gives: nothing, or the frames of the data
+abbrev pub EncodeGives : ℕ → Status → List ℕ → Held → Option (List ℕ) → Option (List ℕ) → Type 0
+EncodeGives rate Ok bytes h out said = StreamLeaves rate (data_of bytes) Ok h out said
+EncodeGives rate Usage bytes h out said = ⊥
+EncodeGives rate (BadWav kind place) bytes h out said = Holds h out said
+EncodeGives rate ReadFault bytes h out said = Holds h out said
+EncodeGives rate WriteFault bytes h out said = StreamLeaves rate (data_of bytes) WriteFault h out said
+EncodeGives rate NoMemory bytes h out said = Holds h out said
+
+-- ---- the job
+
+-- the rate that a command asks for
+abbrev pub rate_asked : Command → ℕ
+rate_asked (Encode o) = o.rate
+
+-- the words ask for an encode at this rate
+abbrev pub AsksEncode : List Text → ℕ → Type 0
+AsksEncode ws rate = (o : Options) × (n : LastWords) × Means ws (encode o n) × (rate ≡ o.rate)
+
+-- why a job has this status, and what it takes of the input
+abbrev pub JobTakes : List Text → Status → List ℕ → Option (List ℕ) → Type 0
+JobTakes ws Usage bytes left = (InGrammar ws → ⊥) × (left ≡ Some bytes)
+JobTakes ws NoMemory bytes left = Unit {0}
+JobTakes ws status bytes left = InGrammar ws × EncodeTakes status bytes left
+
+-- what a job gives
+abbrev pub JobGives : List Text → Status → List ℕ → Held → Option (List ℕ) → Option (List ℕ) → Type 0
+JobGives ws Usage bytes h out said = Holds h out said
+JobGives ws NoMemory bytes h out said = Holds h out said
+JobGives ws status bytes h out said = (rate : ℕ) × AsksEncode ws rate × EncodeGives rate status bytes h out said
+
+-- ---- the run: a job, and then its status line
+
+-- a line was written whole, or a front of it
+abbrev pub Tail : Bool → Option (List ℕ) → List ℕ → List ℕ → Type 0
+Tail true said before line = said ≡ Some (before ++ line)
+Tail false said before line = (t : ℕ) × (said ≡ Some (before ++ take t line))
+
+-- a status line that could not be written turns Ok into WriteFault
+abbrev pub answer_of : Status → Bool → Status
+answer_of Ok false = WriteFault
+answer_of status _ = status
+
+-- what a run gives, where the source and both sinks tell their bytes
+pub record RunGives (ws : List Text) (result : Status) (bytes : List ℕ) (h : Held) (out_now said_now : Option (List ℕ)) : Type 0 where
+  pub status : Status
+  pub whole : Bool
+  pub answer : result ≡ answer_of status whole
+  pub before : List ℕ
+  pub job : JobGives ws status bytes h out_now (Some before)
+  pub line : Tail whole said_now before (status_line status)
+
+-- all is done: the frames of the data, their lines, and the status line
+pub record IsDone (ws : List Text) (bytes : List ℕ) (h : Held) (left_now out_now said_now : Option (List ℕ)) : Type 0 where
+  pub rate : ℕ
+  pub asks : AsksEncode ws rate
+  pub wav : IsPlainWav bytes
+  pub left : left_now ≡ Some (behind bytes)
+  pub stream : List ℕ
+  pub is_stream : IsStream rate (data_of bytes) (frames_of (data_of bytes)) stream
+  pub out : out_now ≡ Some (h.out ++ stream)
+  pub said : said_now ≡ Some (h.said ++ frame_lines rate (frames_of (data_of bytes)) ++ status_line Ok)
