@@ -1,6 +1,6 @@
 //! The sizes of frames, and the parts of a frame that have a room of their own.
-ghost use Rattle.std.specs.Prelude.{◌≡◌, ◌≤◌, ◌<◌, ◌^◌, ◌+◌, ◌-◌, ◌*◌, ◌/◌, ℕ};
-ghost use Rattle.ac_base.specs.Sizes.{frame_words_of, words_before, front_words_of, front_room, end_room};
+ghost use Rattle.std.specs.Prelude.{◌≡◌, ◌≤◌, ◌<◌, ◌^◌, ◌+◌, ◌-◌, ◌*◌, ◌/◌, ◌⊎◌, ℕ};
+ghost use Rattle.ac_base.specs.Sizes.{frame_words_of, words_before, table_words, front_words_of, front_room, end_room};
 
 /// A part of a frame that has a room of its own.
 #[derive(Clone, Copy, Debug, PartialEq, Eq)]
@@ -63,6 +63,7 @@ pub fn frame_words(rate: u16, fscod: u8, frame: u64) -> u16
     requires sampling { fscod ≤ 2 }
     requires frame { frame < 2 ^ 32 }
     ensures value { result ≡ frame_words_of rate fscod frame }
+    ensures listed { (result ≡ table_words rate fscod) ⊎ ((fscod ≡ 1) × (result ≡ table_words rate fscod + 1)) }
     ensures least { 32 ≤ rate → 64 ≤ result }
     ensures most { result ≤ 1920 }
 {

@@ -1,4 +1,4 @@
-//! The window of the transforms, 512 places of scale 2^15, by its first half (A/52 7.9.5).
+//! The window of the transforms, 512 places of scale 2^15, by its first half (A/52 Table 7.33).
 ghost use Rattle.std.specs.Prelude.{◌≡◌, ◌<◌, ◌≤◌, ◌^◌, ℕ, pos, slice_index, unsigned_abs};
 ghost use Rattle.ac_base.specs.Window.{window_list, window_of};
 
