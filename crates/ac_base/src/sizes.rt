@@ -13,11 +13,14 @@ pub enum Part {
     Last,
 }
 
-/// Bits for each part of a frame.
+/// A number of bits for each part of a frame.
 #[derive(Clone, Copy, Debug, PartialEq, Eq)]
 pub struct Parts {
+    /// Of the head and blocks 0 and 1.
     pub front: u32,
+    /// Of the whole frame.
     pub total: u32,
+    /// Of the mantissas of block 5.
     pub last: u32,
 }
 
@@ -57,7 +60,7 @@ fn words_ahead(rate: u16, n: u64) -> u64
 }
 
 /// The words of a frame at a rate in kbit/s, by fscod and the number of the frame. At 44.1 kHz
-/// the sizes vary, so that no frame lags behind the rate by a word (A/52 5.4.1.4).
+/// the sizes vary by a word, so that the frames so far keep to the rate (A/52 5.4.1.4).
 pub fn frame_words(rate: u16, fscod: u8, frame: u64) -> u16
     requires rate { rate ≤ 640 }
     requires sampling { fscod ≤ 2 }
