@@ -1,6 +1,6 @@
 -- The shape of a frame as plain numbers, its coded channels and their bins (A/52 5.4.2.3, 5.4.3.11, 5.4.3.12, 7.1.3).
 -- A coupling is a pair of cplbegf and cplendf.
-use Rattle.std.specs.Prelude.{ℕ, ◌≡◌, ◌+◌, ◌*◌, ◌≤◌, Bool, nat_lt, nat_eq, is_some, if◌then◌else◌, Option, Some, None, [], ◌∷◌, slice_index}
+use Rattle.std.specs.Prelude.{ℕ, ◌≡◌, ◌+◌, ◌-◌, ◌*◌, ◌≤◌, Bool, ◌||◌, nat_lt, nat_le, nat_eq, is_some, if◌then◌else◌, Option, Some, None, [], ◌∷◌, slice_index}
 use Rattle.std.specs.Option.{ForSome}
 use Rattle.ac_base.specs.declared.spans.Span.{Span}
 use Rattle.ac_base.specs.declared.spans.Lead.{Lead}
@@ -19,7 +19,29 @@ IsShape fscod acmod bw couple words =
 abbrev pub full_of : ℕ → ℕ
 full_of acmod = slice_index (2 ∷ 1 ∷ 2 ∷ 3 ∷ 3 ∷ 4 ∷ 4 ∷ 5 ∷ []) acmod
 
--- 1 where the row or channel is there
+-- two channels, of which alone there is rematrixing
+abbrev pub is_stereo : ℕ → Bool
+is_stereo acmod = nat_eq acmod 2
+
+-- a center among three channels in front
+abbrev pub has_center : ℕ → Bool
+has_center acmod = nat_eq acmod 3 || nat_eq acmod 5 || nat_eq acmod 7
+
+-- one or two surround channels
+abbrev pub has_surround : ℕ → Bool
+has_surround acmod = nat_le 4 acmod
+
+-- the subbands of a coupling; each is a band, as every cplbndstrc is 0 (A/52 5.4.3.12, 5.4.3.13)
+abbrev pub subbands : Option (ℕ × ℕ) → ℕ
+subbands None = 0
+subbands (Some p) = 3 + p.1 - p.0
+
+-- the rematrixing bands, by cplbegf under coupling (A/52 7.5.2)
+abbrev pub rematrix_bands : Option (ℕ × ℕ) → ℕ
+rematrix_bands None = 4
+rematrix_bands (Some p) = if nat_lt 2 p.0 then 4 else if nat_lt 0 p.0 then 3 else 2
+
+-- 1 where it is there
 abbrev pub count_of : Bool → ℕ
 count_of there = if there then 1 else 0
 

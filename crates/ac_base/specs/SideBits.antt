@@ -1,30 +1,11 @@
 -- The side bits of a frame: the widths of its rows other than exponents, chbwcod, gainrng, skip bytes and mantissas (A/52 5.3).
 -- Each list has one width for a row of the syntax, in its order; a row that isn't there has the width 0.
-use Rattle.std.specs.Prelude.{ℕ, ◌+◌, ◌-◌, ◌*◌, Bool, ◌&&◌, ◌||◌, nat_lt, nat_le, nat_eq, is_some, if◌then◌else◌, Option, Some, None, List, [], ◌∷◌, sum}
-use Rattle.ac_base.specs.Shape.{full_of, count_of}
+use Rattle.std.specs.Prelude.{ℕ, ◌+◌, ◌-◌, ◌*◌, Bool, ◌&&◌, is_some, if◌then◌else◌, Option, List, [], ◌∷◌, sum}
+use Rattle.ac_base.specs.Shape.{full_of, count_of, is_stereo, has_center, has_surround, subbands, rematrix_bands}
 
 -- the width of a row that is there where the test holds
 abbrev pub when : Bool → ℕ → ℕ
 when there width = if there then width else 0
-
-abbrev pub is_stereo : ℕ → Bool
-is_stereo acmod = nat_eq acmod 2
-
-abbrev pub has_center : ℕ → Bool
-has_center acmod = nat_eq acmod 3 || nat_eq acmod 5 || nat_eq acmod 7
-
-abbrev pub has_surround : ℕ → Bool
-has_surround acmod = nat_le 4 acmod
-
--- the subbands of a coupling; each is a band, as every cplbndstrc is 0 (A/52 5.4.3.12, 5.4.3.13)
-abbrev pub subbands : Option (ℕ × ℕ) → ℕ
-subbands None = 0
-subbands (Some p) = 3 + p.1 - p.0
-
--- the rematrixing bands, by cplbegf under coupling (A/52 7.5.2)
-abbrev pub rematrix_bands : Option (ℕ × ℕ) → ℕ
-rematrix_bands None = 4
-rematrix_bands (Some p) = if nat_lt 2 p.0 then 4 else if nat_lt 0 p.0 then 3 else 2
 
 -- syncinfo and bsi (A/52 5.3.1, 5.3.2)
 abbrev pub head_rows : ℕ → List ℕ

@@ -12,6 +12,13 @@ frame_words_of rate fscod frame =
     else if nat_eq fscod 1 then words_before rate (frame + 1) - words_before rate frame
     else 3 * rate
 
+-- the words of a frame with an even frmsizecod; at 44.1 kHz an odd one has one word more (A/52 Table 5.18)
+abbrev pub table_words : ℕ → ℕ → ℕ
+table_words rate fscod =
+    if nat_eq fscod 0 then 2 * rate
+    else if nat_eq fscod 1 then 320 * rate / 147
+    else 3 * rate
+
 -- the words that crc1 covers, syncword and crc1 among them: five eighths of the frame
 abbrev pub front_words_of : ℕ → ℕ
 front_words_of words = words / 2 + words / 8

@@ -1,7 +1,7 @@
 //! The coefficients of a frame.
 ghost use Rattle.std.specs.Prelude.{◌≡◌, replicate, pos};
 
-/// The coefficients of a frame, of scale 2^23: coded channel, block, bin.
+/// The coefficients of a frame, of scale 2^24: coded channel, block, bin.
 #[derive(Clone, Copy, Debug, PartialEq, Eq)]
 pub struct Coefs {
     pub c: [[[i32; 256]; 6]; 7],

@@ -8,6 +8,7 @@ use crate::numbers::isqrt;
 /// One, of scale 2^60.
 const ONE: u64 = 1 << 60;
 
+/// The quarter table, written out.
 static QUARTER: [i32; 513] = [
     1073741824, 1073736771, 1073721611, 1073696345, 1073660973, 1073615496, 1073559913, 1073494225,
     1073418433, 1073332538, 1073236540, 1073130440, 1073014240, 1072887940, 1072751542, 1072605046,
@@ -75,6 +76,7 @@ static QUARTER: [i32; 513] = [
     16470347, 13176464, 9882456, 6588356, 3294193, 0,
 ];
 
+/// The square root as the recurrence has it.
 fn root_of(x: u128) -> u64
     ensures value { result ≡ root 64 x }
     ensures bound { x ≤ 2 ^ 120 → result ≤ 2 ^ 60 }
@@ -82,6 +84,7 @@ fn root_of(x: u128) -> u64
     isqrt(x)
 }
 
+/// The cosine of phase 1, of scale 2^60, by nine halved angles from a right angle.
 #[tactic(auto, using(crate::proofs::Rules::half_more))]
 fn step_angle() -> u64
     ensures value { result ≡ angle }
@@ -94,15 +97,17 @@ fn step_angle() -> u64
     h
 }
 
-fn next(angle_: u64, before: u64, now: u64) -> u64
-    requires angle { angle_ ≤ 2 ^ 60 }
+/// The cosine after two, each of scale 2^60: 2·cos(step)·cos(now) - cos(before).
+fn next(step: u64, before: u64, now: u64) -> u64
+    requires step { step ≤ 2 ^ 60 }
     requires now { now ≤ 2 ^ 60 }
-    ensures { result ≡ min (2 * angle_ * now / 2 ^ 60 - before) (2 ^ 60) }
+    ensures { result ≡ min (2 * step * now / 2 ^ 60 - before) (2 ^ 60) }
 {
-    let product = (2 * u128::from(angle_) * u128::from(now)) >> 60;
+    let product = (2 * u128::from(step) * u128::from(now)) >> 60;
     (product as u64).saturating_sub(before).min(ONE)
 }
 
+/// A cosine of scale 2^60 at scale 2^30.
 fn rounded(t: u64) -> i32
     requires { t ≤ 2 ^ 60 }
     ensures { result ≡ pos ((t + 2 ^ 29) / 2 ^ 30) }
@@ -134,6 +139,7 @@ fn negated(v: i32) -> i32
     -v
 }
 
+/// The phase in the half period from 0 to 1024 that has the same cosine.
 fn half_phase(phase: u32) -> u32
     ensures value { let r = phase % 2048 in result ≡ min r (2048 - r) }
     ensures bound { result ≤ 1024 }

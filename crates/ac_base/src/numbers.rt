@@ -6,6 +6,7 @@ ghost use Rattle.ac_base.specs.Sigma.{dot_of, Within};
 /// A number of scale 2^Q: `v` stands for v / 2^Q.
 #[derive(Clone, Copy, Debug, PartialEq, Eq)]
 pub struct Fix<const Q: u32> {
+    /// The number times 2^Q.
     pub v: i64,
 }
 
@@ -23,6 +24,7 @@ impl<const Q: u32> Fix<Q> {
     }
 }
 
+/// 2^k.
 fn power(k: u32) -> i64
     requires { k < 62 }
     ensures value { result ≡ pos (2 ^ k) }
@@ -31,6 +33,7 @@ fn power(k: u32) -> i64
     1i64 << k
 }
 
+/// v / 2^k to the nearest, a half rounded upwards.
 fn round_by(v: i64, k: u32) -> i64
     requires least { 0 < k }
     requires most { k ≤ 62 }
@@ -49,6 +52,7 @@ pub fn isqrt(x: u128) -> u64
     x.isqrt() as u64
 }
 
+/// The product at full width.
 #[inline]
 fn product(a: i32, b: i32) -> i64
     ensures { result ≡ a *ℤ b }

@@ -1,6 +1,6 @@
 //! The sizes of frames, and the parts of a frame that have a room of their own.
-ghost use Rattle.std.specs.Prelude.{◌≡◌, ◌≤◌, ◌<◌, ◌^◌, ◌+◌, ◌-◌, ◌*◌, ◌/◌, ℕ};
-ghost use Rattle.ac_base.specs.Sizes.{frame_words_of, words_before, front_words_of, front_room, end_room};
+ghost use Rattle.std.specs.Prelude.{◌≡◌, ◌≤◌, ◌<◌, ◌^◌, ◌+◌, ◌-◌, ◌*◌, ◌/◌, ◌⊎◌, ℕ};
+ghost use Rattle.ac_base.specs.Sizes.{frame_words_of, words_before, table_words, front_words_of, front_room, end_room};
 
 /// A part of a frame that has a room of its own.
 #[derive(Clone, Copy, Debug, PartialEq, Eq)]
@@ -13,11 +13,14 @@ pub enum Part {
     Last,
 }
 
-/// Bits for each part of a frame.
+/// A number of bits for each part of a frame.
 #[derive(Clone, Copy, Debug, PartialEq, Eq)]
 pub struct Parts {
+    /// Of the head and blocks 0 and 1.
     pub front: u32,
+    /// Of the whole frame.
     pub total: u32,
+    /// Of the mantissas of block 5.
     pub last: u32,
 }
 
@@ -57,12 +60,13 @@ fn words_ahead(rate: u16, n: u64) -> u64
 }
 
 /// The words of a frame at a rate in kbit/s, by fscod and the number of the frame. At 44.1 kHz
-/// the sizes vary, so that no frame lags behind the rate by a word (A/52 5.4.1.4).
+/// the sizes vary by a word, so that the frames so far keep to the rate (A/52 5.4.1.4).
 pub fn frame_words(rate: u16, fscod: u8, frame: u64) -> u16
     requires rate { rate ≤ 640 }
     requires sampling { fscod ≤ 2 }
     requires frame { frame < 2 ^ 32 }
     ensures value { result ≡ frame_words_of rate fscod frame }
+    ensures listed { (result ≡ table_words rate fscod) ⊎ ((fscod ≡ 1) × (result ≡ table_words rate fscod + 1)) }
     ensures least { 32 ≤ rate → 64 ≤ result }
     ensures most { result ≤ 1920 }
 {

@@ -19,8 +19,11 @@ pub enum Lead {
 /// The bins of a coded channel: from `start` up to but not `end` (A/52 7.1.3).
 #[derive(Clone, Copy, Debug, PartialEq, Eq)]
 pub struct Span {
+    /// The first bin.
     pub start: u8,
+    /// The bin behind the last.
     pub end: u8,
+    /// What the channel is.
     pub lead: Lead,
 }
 

@@ -1,7 +1,8 @@
-//! The window of the transforms, 512 places of scale 2^15, by its first half (A/52 7.9.5).
+//! The window of the transforms, 512 places of scale 2^15, by its first half (A/52 Table 7.33).
 ghost use Rattle.std.specs.Prelude.{◌≡◌, ◌<◌, ◌≤◌, ◌^◌, ℕ, pos, slice_index, unsigned_abs};
 ghost use Rattle.ac_base.specs.Window.{window_list, window_of};
 
+/// Places 0 to 255; the others are the same backwards.
 static HALF: [u16; 256] = [
     4, 7, 12, 16, 21, 28, 34, 42, 51, 61, 72, 84, 97, 111, 127, 145, 164, 184, 207, 231, 257, 285,
     315, 347, 382, 419, 458, 500, 544, 591, 641, 694, 750, 810, 872, 937, 1007, 1079, 1155, 1235,
