@@ -18,7 +18,7 @@ pub use coefficients::Coefs;
 pub use cosine_table::{cosine, cosines, quarter};
 pub use memory::NoMemory;
 pub use numbers::{Fix, add_product, dot, isqrt};
-pub use rates::rate;
+pub use rates::{is_rate, rate, rate_code};
 pub use shapes::Shape;
 pub use side::{side_bits, side_bits_law};
 pub use sizes::{Part, Parts, frame_words, front_words, rooms};

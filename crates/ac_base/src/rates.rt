@@ -1,6 +1,6 @@
 //! The nominal bit rates of A/52 (Table 5.18).
 ghost use Rattle.std.specs.Prelude.{◌≡◌, ◌≤◌, ℕ, slice_index};
-ghost use Rattle.ac_base.specs.Rates.{rates};
+ghost use Rattle.ac_base.specs.Rates.{rates, is_rate, IsRate, HasCode};
 
 /// In kbit/s, by frmsizecod / 2.
 static RATES: [u16; 19] = [
@@ -26,3 +26,24 @@ pub fn rate(code: u8) -> u16
 
 #[cfg(test)]
 mod tests;
+
+/// The code of a bit rate in kbit/s: its place in the table (A/52 Table 5.18).
+pub fn rate_code(rate: u16) -> u8
+    requires { IsRate rate }
+    ensures { HasCode rate result }
+{
+    for code in 0..19u8 {
+        if entry(code) == rate {
+            return code;
+        }
+    }
+    0
+}
+
+/// Whether a bit rate in kbit/s is one of the table (A/52 Table 5.18).
+#[tactic(auto, unfolding(crate::specs::Rates::is_rate))]
+pub fn is_rate(rate: u16) -> bool
+    ensures { result ≡ is_rate rate }
+{
+    RATES.contains(&rate)
+}
