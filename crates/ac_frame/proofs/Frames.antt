@@ -1,5 +1,5 @@
 -- The parts of a frame, over lists of bits.
-use Rattle.std.proofs.Common.{◌≡◌, ◌≢◌, ◌⊎◌, ℕ, zero, suc, ◌+◌, ◌-◌, ◌*◌, ◌≤◌, Bool, List, [], ◌∷◌, ◌++◌, length, take, drop, refl, ap, sym, ◌∙◌, subst, append_assoc, arith, length-append}
+use Rattle.std.proofs.Common.{◌<◌, ◌^◌, ◌≡◌, ◌≢◌, ◌⊎◌, ℕ, zero, suc, ◌+◌, ◌-◌, ◌*◌, ◌≤◌, Bool, List, [], ◌∷◌, ◌++◌, length, take, drop, refl, ap, sym, ◌∙◌, subst, append_assoc, arith, length-append}
 use Rattle.std.proofs.lemmas.List.{drop_at, take-append-le}
 use Rattle.std.proofs.Common.{inl, inr}
 use Rattle.std.specs.Prelude.{Option, Some, None}
@@ -13,7 +13,7 @@ use Rattle.ac_crc.specs.Remainder.{IsRemainder}
 use Rattle.ac_frame.specs.declared.rows.Row.{Row}
 use Rattle.ac_frame.specs.Rows.{row, spell, widths, group_rows}
 use Rattle.ac_frame.specs.Padding.{front_room, skip, skip_bits, skipped, to_skip, aux_bits}
-use Rattle.ac_frame.specs.Plain.{head_rows, strategy_rows, allocation_rows, reuse_rows, skip_rows, first_block_rows, later_block_rows, later_rows, tail_rows, total_bits, body_rows, plain_rows, front_part, all_part, IsPlain}
+use Rattle.ac_frame.specs.Plain.{head_rows, strategy_rows, allocation_rows, reuse_rows, skip_rows, first_block_rows, later_block_rows, later_rows, tail_rows, total_bits, body_rows, plain_rows, front_part, all_part, IsSized, IsPlain}
 use Rattle.ac_frame.proofs.Spelling.{spell-append, widths-append, widths-groups, length-spell, one_spelled}
 use Rattle.ac_frame.proofs.Skips.{skipped_is, room_left}
 
@@ -115,10 +115,8 @@ pub record Made : Type 0 where
   pub first : ℕ
   pub groups : List ℕ
 
-pub record Sized (a : Made) : Type 0 where
-  pub least : 64 ≤ a.words
-  pub most : a.words ≤ 1920
-  pub few : length a.groups ≤ 21
+abbrev pub Sized : Made → Type 0
+Sized a = IsSized a.words a.groups
 
 abbrev pub body : Made → ℕ → List Row
 body a r = body_rows a.fscod a.frmsizecod a.words a.bw a.first a.groups r
@@ -144,14 +142,14 @@ pub length-body : (a : Made) (r : ℕ) → Sized a → length (spell (body a r))
 length-body a r s = omega (arith, length-spell (body a r), widths-body a r s)
 
 -- the bits before crcrsv
-before : Made → List Bool
+pub before : Made → List Bool
 before a =
     spell (head_rows a.fscod a.frmsizecod ++ (first_block_rows a.bw a.first a.groups ++ (later_rows (to_skip a.words (total a) 0) ++ (row 0 (aux_bits a.words (total a) 0) ∷ row 0 1 ∷ []))))
 
 regroup : (a b c d e : List Row) → a ++ (b ++ (c ++ (d ++ e))) ≡ (a ++ (b ++ (c ++ d))) ++ e
 regroup a b c d e = sym (simp append_assoc)
 
-body_split : (a : Made) (r : ℕ) → spell (body a r) ≡ before a ++ bits r 1
+pub body_split : (a : Made) (r : ℕ) → spell (body a r) ≡ before a ++ bits r 1
 unfolding body_rows before tail_rows total
 body_split a r =
     let head = head_rows a.fscod a.frmsizecod in
@@ -190,19 +188,20 @@ front_is a crc1 r crc2 m s e =
     ∙ ap (λ l. bits crc1 16 ++ l) (front_same a r 0 m s low))
 
 -- these are the parts of a plain frame
-pub is_plain : (a : Made) (frame : List ℕ) (crc1 r crc2 m : ℕ) → Sized a → front_room a.words ≡ 32 + m
+pub is_plain : (a : Made) (frame : List ℕ) (crc1 r crc2 m : ℕ) → Sized a → front_room a.words ≡ 32 + m → (crc1 < 2 ^ 16) × (crc2 < 2 ^ 16)
     → bits_of frame ≡ bits 0x0B77 16 ++ (bits crc1 16 ++ (spell (body a r) ++ bits crc2 16))
     → IsRemainder (bits crc1 16 ++ take m (spell (body a 0))) 0
     → IsRemainder (bits crc1 16 ++ (spell (body a r) ++ bits crc2 16)) 0
     → ((r ≡ 0) × (crc2 ≢ 0x0B77)) ⊎ ((r ≡ 1) × IsRemainder (bits crc1 16 ++ (spell (body a 0) ++ bits 0x0B77 16)) 0)
     → IsPlain a.fscod a.frmsizecod a.words a.bw a.first a.groups frame
-is_plain a frame crc1 r crc2 m s e whole front all reserved =
+is_plain a frame crc1 r crc2 m s e fit whole front all reserved =
     let same : bits_of frame ≡ spell (plain_rows a.fscod a.frmsizecod a.words a.bw a.first a.groups crc1 r crc2) = whole ∙ sym (all_rows a crc1 r crc2) in
     let Zero : List Bool → Type 0 = λ l. IsRemainder l 0 in
     record {
       crc1 = crc1;
       crcrsv = r;
       crc2 = crc2;
+      fit = fit;
       whole = same;
       front = subst Zero (sym (ap (front_part a.words) same ∙ front_is a crc1 r crc2 m s e)) front;
       all = subst Zero (sym (ap all_part same ∙ all_of a crc1 r crc2)) all;
@@ -225,3 +224,17 @@ pub closed : (buf : List ℕ) (n crc1 crc2 : ℕ) (middle : List Bool) → bits_
     → IsRemainder (bits crc1 16 ++ (bits_of (take n buf) ++ bits crc2 16)) 0
     → IsRemainder (bits crc1 16 ++ (middle ++ bits crc2 16)) 0
 closed buf n crc1 crc2 middle e r = subst (λ (l : List Bool). IsRemainder (bits crc1 16 ++ (l ++ bits crc2 16)) 0) e r
+
+drop_none : (n : ℕ) → drop {A = Bool} n [] ≡ []
+drop_none zero = refl
+drop_none (suc n) = refl
+
+-- what is left of bytes, as bits
+pub bits_of-drop : (k : ℕ) (l : List ℕ) → bits_of (drop k l) ≡ drop (8 * k) (bits_of l)
+bits_of-drop zero l = refl
+bits_of-drop (suc k) [] = sym (drop_none (8 * suc k))
+bits_of-drop (suc k) (b ∷ l) =
+    let n : 8 * suc k ≡ 8 + 8 * k = omega arith in
+    bits_of-drop k l
+    ∙ (ap (drop (8 * k)) (sym (drop_at (bits b 8) (bits_of l) 8 (length-bits b 8)))
+    ∙ (drop-drop (8 * k) 8 (bits b 8 ++ bits_of l) ∙ ap (λ m. drop m (bits b 8 ++ bits_of l)) (sym n)))

@@ -1,5 +1,5 @@
 -- The plain frame: mono, SNR offset 0, exponents D45 in block 0 and reuse after it, no mantissas.
-use Rattle.std.specs.Prelude.{◌≡◌, ◌≢◌, ◌⊎◌, ℕ, ◌+◌, ◌*◌, ◌/◌, Bool, List, [], ◌∷◌, ◌++◌, length, take, drop, Option, Some, None}
+use Rattle.std.specs.Prelude.{◌≡◌, ◌≢◌, ◌⊎◌, ℕ, ◌+◌, ◌*◌, ◌/◌, ◌^◌, ◌<◌, ◌≤◌, slice_index, Bool, List, [], ◌∷◌, ◌++◌, length, take, drop, Option, Some, None}
 use Rattle.ac_bits.specs.Bits.{bits_of}
 use Rattle.ac_crc.specs.Remainder.{IsRemainder}
 use Rattle.ac_frame.specs.declared.rows.Row.{Row}
@@ -136,11 +136,22 @@ front_part words frame = drop 16 (take (front_room words) frame)
 abbrev pub all_part : List Bool → List Bool
 all_part frame = drop 16 frame
 
+-- a size that a frame may have, and no more groups than the widest channel has
+pub record IsSized (words : ℕ) (groups : List ℕ) : Type 0 where
+  pub least : 64 ≤ words
+  pub most : words ≤ 1920
+  pub few : length groups ≤ 21
+
+-- each is a byte
+abbrev pub AreBytes : List ℕ → Type 0
+AreBytes frame = (k : ℕ) → k < length frame → slice_index frame k < 2 ^ 8
+
 -- These bytes are the plain frame. crcrsv is 0, or 1 where crc2 would else be the syncword.
 pub record IsPlain (fscod frmsizecod words bw first : ℕ) (groups frame : List ℕ) : Type 0 where
   pub crc1 : ℕ
   pub crcrsv : ℕ
   pub crc2 : ℕ
+  pub fit : (crc1 < 2 ^ 16) × (crc2 < 2 ^ 16)
   pub whole : bits_of frame ≡ spell (plain_rows fscod frmsizecod words bw first groups crc1 crcrsv crc2)
   pub front : IsRemainder (front_part words (bits_of frame)) 0
   pub all : IsRemainder (all_part (bits_of frame)) 0

@@ -8,10 +8,12 @@
 mod blocks;
 mod frame;
 mod head;
+mod law;
 mod padding;
 mod rows;
 mod size;
 
 pub use frame::plain;
+pub use law::plain_law;
 pub use rows::Row;
 pub use size::Size;

@@ -20,7 +20,7 @@ returns-then-assemble-ne-SYNC_WORD-clause-frame c =
     let Zero : List Bool → Type 0 = λ l. IsRemainder l 0 in
     let front = subst Zero (ap (λ l. bits crc1 16 ++ l) (front_bits buf k n (omega arith) ∙ ap (take (8 * k)) c.put_body-count.ensures.bytes)) c.leading_word-crc1.ensures.none_left in
     let long : n ≤ length buf = omega arith in
-    is_plain a (take (n + 6) c.assemble.new.out) crc1 0 crc2 (8 * k) sized room
+    is_plain a (take (n + 6) c.assemble.new.out) crc1 0 crc2 (8 * k) sized room (c.leading_word-crc1.type_inv, c.assemble.type_inv)
     (assembled c.assemble.new.out buf n crc1 crc2 (spell (body a 0)) long c.put_body-count.ensures.bytes c.assemble.ensures.frame)
     front
     (closed buf n crc1 crc2 (spell (body a 0)) c.put_body-count.ensures.bytes c.assemble.ensures.whole)
@@ -45,7 +45,7 @@ returns-clause-frame c =
     let again : bits_of (take n next) ≡ spell (body a 1) = ap (λ m. bits_of (take m next)) same ∙ c.put_body.ensures.bytes in
     let sync = subst (λ (w : ℕ). IsRemainder (bits crc1 16 ++ (spell (body a 0) ++ bits w 16)) 0) c.if-assemble-ne-SYNC_WORD.false
     (closed buf n crc1 c.assemble.result (spell (body a 0)) c.put_body-count.ensures.bytes c.assemble.ensures.whole) in
-    is_plain a (take (n + 6) c.assemble-2.new.out) crc1 1 crc2 (8 * k) sized room
+    is_plain a (take (n + 6) c.assemble-2.new.out) crc1 1 crc2 (8 * k) sized room (c.leading_word-crc1.type_inv, c.assemble-2.type_inv)
     (assembled c.assemble-2.new.out next n crc1 crc2 (spell (body a 1)) long again c.assemble-2.ensures.frame)
     front
     (closed next n crc1 crc2 (spell (body a 1)) again c.assemble-2.ensures.whole)
