@@ -3,7 +3,9 @@ ghost use Rattle.ac_bits.specs.Bits.{bits, bits_of, Appends};
 
 use std::marker::Model;
 
-/// The bits of one frame, up to 30,720 of them.
+/// The bits of one frame, at most 30,720 of them: the 3,840 bytes of the largest frame.
+///
+/// Contracts see it as the list of the bits that were put.
 #[derive(Drop)]
 pub struct BitSink {
     buf: [u8; 3840],
@@ -41,6 +43,7 @@ fn flush(buf: &mut [u8; 3840], mut full: usize, mut held: u64, mut used: u32) ->
 }
 
 impl BitSink {
+    /// A sink without bits.
     pub fn new() -> BitSink
         ensures { result ≡ [] }
     {
@@ -52,7 +55,9 @@ impl BitSink {
         }
     }
 
-    /// Appends the `width` bits of `value`.
+    /// Appends the `width` bits of `value`, most significant first.
+    ///
+    /// `value` is below 2^`width`, `width` at most 32, and there is room for them.
     pub fn put(&mut self, value: u32, width: u32)
         requires width { width ≤ 32 }
         requires fits { value < 2 ^ width }
@@ -67,6 +72,7 @@ impl BitSink {
         self.used = used;
     }
 
+    /// How many bits were put.
     pub fn len(&self) -> u32
         ensures len { result ≡ length self.now }
         ensures within { length self.now ≤ 30720 }
@@ -74,7 +80,9 @@ impl BitSink {
         8 * self.full as u32 + self.used
     }
 
-    /// The bytes at the front of `out`, and how many they are.
+    /// Writes the bits as whole bytes to the front of `out`, and says how many bytes they are.
+    ///
+    /// The number of bits is a multiple of 8.
     pub fn bytes(&self, out: &mut [u8; 3840]) -> usize
         requires { length self.now % 8 ≡ 0 }
         ensures count { 8 * result ≡ length self.now }

@@ -3,11 +3,13 @@ ghost use Rattle.ac_bits.specs.Bits.{bits, bits_of};
 
 use std::marker::Model;
 
-/// Fewer bits are left than were asked for.
+/// Fewer bits are left than were asked for: the refusal of [`BitSource::take`].
 #[derive(Clone, Copy, Debug, PartialEq, Eq)]
 pub struct OutOfBits;
 
-/// Bits still to come.
+/// The bits at the front of a slice of bytes that are still to come.
+///
+/// Contracts see it as the list of these bits.
 #[derive(Drop)]
 pub struct BitSource<'a> {
     bytes: &'a [u8],
@@ -48,6 +50,7 @@ fn fill(bytes: &[u8], mut at: usize, mut held: u64, mut have: u32, width: u32) -
 }
 
 impl<'a> BitSource<'a> {
+    /// The first `bits` bits of `bytes`, which has at least as many.
     pub fn new(bytes: &'a [u8], bits: u32) -> BitSource<'a>
         requires { bits ≤ 8 * length bytes.now }
         ensures { result ≡ take bits (bits_of bytes.now) }
@@ -61,7 +64,11 @@ impl<'a> BitSource<'a> {
         }
     }
 
-    /// The next `width` bits as a number. After a refusal nothing is taken.
+    /// The number that the next `width` bits spell, most significant first; `width` is at most 32.
+    ///
+    /// # Errors
+    ///
+    /// `OutOfBits` exactly where fewer than `width` bits are left. Then nothing is taken.
     pub fn take(&mut self, width: u32) -> Result<u32, OutOfBits>
         requires { width ≤ 32 }
         ensures taken { IfOk result (λ v. (v < 2 ^ width) × (self.old ≡ bits v width ++ self.new)) }
@@ -80,7 +87,7 @@ impl<'a> BitSource<'a> {
         Ok(value as u32)
     }
 
-    /// A second source of the same bits.
+    /// A second source of the same bits, by which a reader can stand again where a field began.
     pub fn copy(&self) -> BitSource<'a>
         ensures { result ≡ self.now }
     {
@@ -93,6 +100,7 @@ impl<'a> BitSource<'a> {
         }
     }
 
+    /// How many bits are still to come.
     pub fn left(&self) -> u32
         ensures { result ≡ length self.now }
     {

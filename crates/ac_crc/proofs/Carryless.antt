@@ -7,7 +7,7 @@ use Rattle.std.proofs.lemmas.Nat.{xor_shr, xor_mod}
 use Rattle.std.specs.Prelude.{bit_xor}
 use Rattle.ac_bits.specs.Bits.{bits, is_odd}
 use Rattle.ac_bits.proofs.Laws.{length-bits}
-use Rattle.ac_crc.specs.Crc.{add, zeros, generator, copies}
+use Rattle.ac_crc.specs.Remainder.{add, zeros, generator, copies}
 
 -- lists of one length are added part by part
 pub add-append : (a b x y : List Bool) → length a ≡ length b → add (a ++ x) (b ++ y) ≡ add a b ++ add x y

@@ -9,7 +9,7 @@ use Rattle.std.specs.Int.Bits.{xor_zero_l}
 use Rattle.std.specs.Prelude.{bit_xor}
 use Rattle.ac_bits.specs.Bits.{bits, num, bits_of}
 use Rattle.ac_bits.proofs.Laws.{length-bits, bits-split, bits-join, bits_of-append, num-bits, bits_same}
-use Rattle.ac_crc.specs.Crc.{add, zeros, copies, IsRemainder}
+use Rattle.ac_crc.specs.Remainder.{add, zeros, copies, IsRemainder}
 use Rattle.ac_crc.proofs.Carryless.{add-append, length-add, add-zeros, add-comm, back, bits-xor, length-copies, copies-zeros, copies-add, copies-drop, picks_same, last_same}
 
 zero_word : zeros 16 ≡ bits 0 16

@@ -3,7 +3,7 @@ use Rattle.std.proofs.Common.{◌≡◌, ℕ, zero, suc, ◌<◌, ◌^◌, Bool,
 use Rattle.std.specs.Prelude.{◌&&◌, nat_lt}
 use Rattle.std.proofs.lemmas.Bool.{cases_eq, ltb-true}
 use Rattle.ac_bits.specs.Bits.{bits}
-use Rattle.ac_crc.specs.Crc.{add, zeros, copies, IsRemainder}
+use Rattle.ac_crc.specs.Remainder.{add, zeros, copies, IsRemainder}
 use Rattle.ac_crc.proofs.Carryless.{lower}
 
 -- n picks for which the sum begins as the list does

@@ -1,13 +1,16 @@
-//! The CRC words.
+//! The CRC words of a frame (A/52 7.10.1): remainders by x^16 + x^15 + x^2 + 1.
+//!
+//! A part of a frame is whole where its remainder is 0. Its CRC word stands in front of the
+//! part (crc1, [`leading_word`]) or behind it (crc2, [`trailing_word`]).
 #![tactic(auto)]
 
 mod table;
 
 ghost use Rattle.std.specs.Prelude.{◌≡◌, ℕ, ◌<◌, ◌^◌, List, ◌++◌, Bool};
 ghost use Rattle.ac_bits.specs.Bits.{bits, bits_of};
-ghost use Rattle.ac_crc.specs.Crc.{IsRemainder};
+ghost use Rattle.ac_crc.specs.Remainder.{IsRemainder};
 
-/// The remainder of the bits times x^16.
+/// The remainder of the bits of `bytes` times x^16, by the generator of A/52 7.10.1.
 pub fn remainder(bytes: &[u8]) -> u16
     ensures is_remainder { IsRemainder (bits_of bytes.now) result }
     ensures only { (r : ℕ) → IsRemainder (bits_of bytes.now) r → r ≡ result }
@@ -45,7 +48,7 @@ fn enter(register: u16, byte: u8) -> u16
     ((register % 256) << 8) ^ table::remainder_of((register >> 8) as u8 ^ byte)
 }
 
-/// The one word that leaves no remainder behind the bytes.
+/// The one word that leaves remainder 0 behind the bits of `bytes` (crc2, A/52 7.10.1).
 pub fn trailing_word(bytes: &[u8]) -> u16
     ensures none_left { IsRemainder (bits_of bytes.now ++ bits result 16) 0 }
     ensures only { (u : ℕ) → u < 2 ^ 16 → IsRemainder (bits_of bytes.now ++ bits u 16) 0 → u ≡ result }
@@ -53,7 +56,7 @@ pub fn trailing_word(bytes: &[u8]) -> u16
     remainder(bytes)
 }
 
-/// The one word that leaves no remainder in front of the bytes.
+/// The one word that leaves remainder 0 in front of the bits of `bytes` (crc1, A/52 7.10.1).
 pub fn leading_word(bytes: &[u8]) -> u16
     ensures none_left { IsRemainder (bits result 16 ++ bits_of bytes.now) 0 }
     ensures only { (u : ℕ) → u < 2 ^ 16 → IsRemainder (bits u 16 ++ bits_of bytes.now) 0 → u ≡ result }
@@ -78,8 +81,9 @@ fn enter_front(word: u16, byte: u8) -> u16
 mod tests {
     use super::*;
 
+    // The expected words are those of a division bit by bit in Python.
     #[test]
-    fn known_words(rt: HostRuntime) {
+    fn crc_numbers(rt: HostRuntime) {
         assert_eq!(rt; remainder(b"123456789"), 0xfee8);
         assert_eq!(rt; remainder(&[1]), 0x8005);
         assert_eq!(rt; trailing_word(&[1]), 0x8005);

@@ -2,7 +2,7 @@
 
 ghost use Rattle.std.specs.Prelude.{◌++◌};
 ghost use Rattle.ac_bits.specs.Bits.{bits};
-ghost use Rattle.ac_crc.specs.Crc.{IsRemainder, zeros};
+ghost use Rattle.ac_crc.specs.Remainder.{IsRemainder, zeros};
 
 static REMAINDERS: [u16; 256] = [
     0x0000, 0x8005, 0x800f, 0x000a, 0x801b, 0x001e, 0x0014, 0x8011, 0x8033, 0x0036, 0x003c, 0x8039,

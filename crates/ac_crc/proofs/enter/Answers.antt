@@ -1,7 +1,7 @@
 use Rattle.std.proofs.Common.{◌≡◌, ◌*◌, ◌%◌, ◌^◌, ◌++◌, ℕ, subst, arith}
 use Rattle.std.specs.Prelude.{bit_xor}
 use Rattle.ac_bits.specs.Bits.{bits}
-use Rattle.ac_crc.specs.Crc.{IsRemainder}
+use Rattle.ac_crc.specs.Remainder.{IsRemainder}
 use Rattle.ac_crc.proofs.Remainders.{enters}
 use Rattle.ac_crc.proofs.enter.Goals as goal
 

@@ -1,6 +1,6 @@
 use Rattle.std.proofs.Common.{◌≡◌, ◌<◌, ◌+◌, ◌-◌, ◌++◌, ℕ, List, Bool, length, subst, ap, arith, drop}
 use Rattle.ac_bits.specs.Bits.{bits, bits_of}
-use Rattle.ac_crc.specs.Crc.{IsRemainder}
+use Rattle.ac_crc.specs.Remainder.{IsRemainder}
 use Rattle.ac_crc.proofs.Remainders.{starts_front, bits_of-before, one_leading}
 use Rattle.ac_crc.proofs.leading_word.Goals as goal
 

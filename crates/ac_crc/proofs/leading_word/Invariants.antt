@@ -1,6 +1,6 @@
 use Rattle.std.proofs.Common.{◌≤◌, ◌<◌, ◌^◌, length, ◌++◌, drop}
 use Rattle.ac_bits.specs.Bits.{bits, bits_of}
-use Rattle.ac_crc.specs.Crc.{IsRemainder}
+use Rattle.ac_crc.specs.Remainder.{IsRemainder}
 use Rattle.ac_crc.proofs.leading_word.Given as goal
 
 abbrev pub invariant-loop-at : goal.invariant-loop-at

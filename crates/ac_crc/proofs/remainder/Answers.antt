@@ -1,6 +1,6 @@
 use Rattle.std.proofs.Common.{◌<◌, ◌≤◌, ◌+◌, List, Bool, length, subst, arith, take}
 use Rattle.ac_bits.specs.Bits.{bits_of}
-use Rattle.ac_crc.specs.Crc.{IsRemainder}
+use Rattle.ac_crc.specs.Remainder.{IsRemainder}
 use Rattle.ac_crc.proofs.Remainders.{starts, whole_list, one_remainder, bits_of-more, bits_of-four}
 use Rattle.ac_crc.proofs.remainder.Goals as goal
 

@@ -1,6 +1,6 @@
 use Rattle.std.proofs.Common.{◌≤◌, ◌-◌, length, take}
 use Rattle.ac_bits.specs.Bits.{bits_of}
-use Rattle.ac_crc.specs.Crc.{IsRemainder}
+use Rattle.ac_crc.specs.Remainder.{IsRemainder}
 use Rattle.ac_crc.proofs.remainder.Given as goal
 
 abbrev pub invariant-fours : goal.invariant-fours

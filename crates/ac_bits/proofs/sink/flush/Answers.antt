@@ -1,6 +1,5 @@
-use Rattle.std.proofs.Common.{◌≡◌, ℕ, ◌+◌, ◌-◌, ◌*◌, ◌/◌, ◌%◌, ◌<◌, ◌≤◌, ◌^◌, ◌∙◌, ap, refl, arith, length, length-set, ◌++◌, take, set}
+use Rattle.std.proofs.Common.{◌≡◌, ◌-◌, ◌*◌, ◌/◌, ◌%◌, ◌<◌, ◌^◌, ◌∙◌, arith, length, length-set}
 use Rattle.std.proofs.lemmas.Nat.{mod_below, pow_pos}
-use Rattle.ac_bits.specs.Bits.{bits, bits_of}
 use Rattle.ac_bits.proofs.Laws.{flush_step, low_left, top_byte}
 use Rattle.ac_bits.proofs.sink.flush.Goals as goal
 

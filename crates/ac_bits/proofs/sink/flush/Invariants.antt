@@ -1,4 +1,4 @@
-use Rattle.std.proofs.Common.{◌+◌, ◌-◌, ◌≡◌, ◌*◌, ◌^◌, ◌<◌, ◌≤◌, ◌++◌, length, take}
+use Rattle.std.proofs.Common.{◌+◌, ◌≡◌, ◌*◌, ◌^◌, ◌<◌, ◌++◌, length, take}
 use Rattle.ac_bits.specs.Bits.{bits, bits_of}
 use Rattle.ac_bits.proofs.sink.flush.Given as goal
 

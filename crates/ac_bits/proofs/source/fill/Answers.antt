@@ -1,4 +1,4 @@
-use Rattle.std.proofs.Common.{◌≡◌, ℕ, ◌+◌, ◌-◌, ◌*◌, ◌/◌, ◌%◌, ◌<◌, ◌≤◌, ◌^◌, ◌∙◌, ap, arith, length, get_or, ◌++◌, drop}
+use Rattle.std.proofs.Common.{◌+◌, ◌<◌, ◌^◌, ◌∙◌, ap, arith, length, get_or, ◌++◌, drop}
 use Rattle.ac_bits.specs.Bits.{bits, bits_of}
 use Rattle.ac_bits.proofs.Laws.{fill_step, put_fits}
 use Rattle.ac_bits.proofs.source.fill.Goals as goal

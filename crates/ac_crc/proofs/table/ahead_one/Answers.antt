@@ -1,7 +1,7 @@
 use Rattle.std.proofs.Common.{arith}
 use Rattle.std.proofs.Math.Bool.{xor}
 use Rattle.ac_bits.specs.Bits.{bits}
-use Rattle.ac_crc.specs.Crc.{copies, add}
+use Rattle.ac_crc.specs.Remainder.{copies, add}
 use Rattle.ac_crc.proofs.Tables.{ahead_at, has_ahead, is_remainder}
 use Rattle.ac_crc.proofs.table.ahead_one.Goals as goal
 

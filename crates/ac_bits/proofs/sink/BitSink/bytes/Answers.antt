@@ -1,4 +1,4 @@
-use Rattle.std.proofs.Common.{◌≡◌, ◌+◌, ◌*◌, ◌≤◌, ◌++◌, length, ap, sym, ◌∙◌, arith, take}
+use Rattle.std.proofs.Common.{◌≡◌, ◌+◌, ◌*◌, ◌++◌, length, ap, sym, ◌∙◌, arith, take}
 use Rattle.std.proofs.lemmas.List.{append-nil}
 use Rattle.ac_bits.specs.Bits.{bits_of, bits}
 use Rattle.ac_bits.proofs.Laws.{length-view, bits-zero}

@@ -1,4 +1,4 @@
-use Rattle.std.proofs.Common.{◌≡◌, ◌+◌, ◌*◌, ◌≤◌, length, ap, sym, ◌∙◌, arith}
+use Rattle.std.proofs.Common.{◌≡◌, ◌+◌, ◌*◌, length, ap, sym, ◌∙◌, arith}
 use Rattle.ac_bits.proofs.Laws.{length-view}
 use Rattle.ac_bits.proofs.sink.BitSink.len.Goals as goal
 

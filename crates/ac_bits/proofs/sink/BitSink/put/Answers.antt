@@ -1,4 +1,4 @@
-use Rattle.std.proofs.Common.{◌≡◌, ◌≤◌, ◌<◌, ◌+◌, ◌*◌, ◌%◌, ◌^◌, ◌++◌, length, ap, sym, ◌∙◌, arith, take}
+use Rattle.std.proofs.Common.{◌+◌, ◌++◌, length, ap, sym, ◌∙◌, arith, take}
 use Rattle.ac_bits.specs.Bits.{bits_of, bits}
 use Rattle.ac_bits.proofs.Laws.{length-view, put_joins, put_fits, length-bits, length-appends}
 use Rattle.ac_bits.proofs.sink.BitSink.put.Goals as goal

@@ -1,4 +1,4 @@
-use Rattle.std.proofs.Common.{◌≡◌, length, ap, sym, ◌∙◌}
+use Rattle.std.proofs.Common.{length, ap, sym, ◌∙◌}
 use Rattle.ac_bits.proofs.Laws.{length-to_come}
 use Rattle.ac_bits.proofs.source.BitSource.left.Goals as goal
 

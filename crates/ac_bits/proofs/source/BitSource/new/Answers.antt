@@ -1,4 +1,4 @@
-use Rattle.std.proofs.Common.{◌≡◌, ap, ◌++◌, take}
+use Rattle.std.proofs.Common.{ap, ◌++◌, take}
 use Rattle.ac_bits.specs.Bits.{bits_of}
 use Rattle.ac_bits.proofs.Laws.{bits-zero}
 use Rattle.ac_bits.proofs.source.BitSource.new.Goals as goal

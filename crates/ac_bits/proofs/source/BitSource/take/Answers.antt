@@ -1,4 +1,4 @@
-use Rattle.std.proofs.Common.{◌≡◌, ◌≤◌, ◌<◌, ap, sym, ◌∙◌, arith, take, drop}
+use Rattle.std.proofs.Common.{◌<◌, ap, sym, ◌∙◌, arith, take, drop}
 use Rattle.std.proofs.Math.Nat.{pow-le-pow_right}
 use Rattle.ac_bits.specs.Bits.{bits_of}
 use Rattle.ac_bits.proofs.Laws.{taken, top_fits}

@@ -1,4 +1,4 @@
--- Remainders by a generator, over bits.
+-- The remainder of a list of bits by the generator of A/52 7.10.1, by sums of shifted copies.
 use Rattle.std.specs.Prelude.{◌≡◌, ℕ, ◌<◌, ◌^◌, Bool, true, false, List, [], ◌∷◌, ◌++◌, length, replicate}
 use Rattle.std.proofs.Math.Bool.{xor}
 use Rattle.ac_bits.specs.Bits.{bits}

@@ -1,0 +1,4 @@
+pub mod Frames
+pub mod Skips
+pub mod Spelling
+pub mod Unique

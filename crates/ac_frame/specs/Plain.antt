@@ -1,0 +1,158 @@
+-- The plain frame: mono, SNR offset 0, exponents D45 in block 0 and reuse after it, no mantissas.
+use Rattle.std.specs.Prelude.{◌≡◌, ◌≢◌, ◌⊎◌, ℕ, ◌+◌, ◌*◌, ◌/◌, ◌^◌, ◌<◌, ◌≤◌, slice_index, Bool, List, [], ◌∷◌, ◌++◌, length, take, drop, Option, Some, None}
+use Rattle.ac_bits.specs.Bits.{bits_of}
+use Rattle.ac_crc.specs.Remainder.{IsRemainder}
+use Rattle.ac_frame.specs.declared.rows.Row.{Row}
+use Rattle.ac_frame.specs.Rows.{row, spell, group_rows}
+use Rattle.ac_frame.specs.Padding.{front_room, skip, to_skip, aux_bits}
+
+-- syncinfo and bsi behind crc1 (A/52 5.3.1 and 5.4.1, 5.3.2 and 5.4.2)
+unfoldable pub head_rows : ℕ → ℕ → List Row
+head_rows fscod frmsizecod =
+    row fscod 2  -- fscod
+    ∷ row frmsizecod 6  -- frmsizecod
+    ∷ row 8 5  -- bsid
+    ∷ row 0 3  -- bsmod
+    ∷ row 1 3  -- acmod: 1/0
+    ∷ row 0 1  -- lfeon
+    ∷ row 31 5  -- dialnorm
+    ∷ row 0 1  -- compre
+    ∷ row 0 1  -- langcode
+    ∷ row 0 1  -- audprodie
+    ∷ row 0 1  -- copyrightb
+    ∷ row 1 1  -- origbs
+    ∷ row 0 1  -- timecod1e
+    ∷ row 0 1  -- timecod2e
+    ∷ row 0 1  -- addbsie
+    ∷ []
+
+-- block 0 up to the exponent of bin 0 (A/52 5.3.3 and 5.4.3)
+unfoldable pub strategy_rows : ℕ → ℕ → List Row
+strategy_rows bw first =
+    row 0 1  -- blksw
+    ∷ row 0 1  -- dithflag
+    ∷ row 0 1  -- dynrnge
+    ∷ row 1 1  -- cplstre
+    ∷ row 0 1  -- cplinu
+    ∷ row 3 2  -- chexpstr: D45
+    ∷ row bw 6  -- chbwcod
+    ∷ row first 4  -- exps: that of bin 0
+    ∷ []
+
+-- block 0 behind the groups of exponents
+unfoldable pub allocation_rows : List Row
+allocation_rows =
+    row 0 2  -- gainrng
+    ∷ row 1 1  -- baie
+    ∷ row 2 2  -- sdcycod
+    ∷ row 1 2  -- fdcycod
+    ∷ row 1 2  -- sgaincod
+    ∷ row 3 2  -- dbpbcod
+    ∷ row 7 3  -- floorcod
+    ∷ row 1 1  -- snroffste
+    ∷ row 0 6  -- csnroffst
+    ∷ row 0 4  -- fsnroffst
+    ∷ row 4 3  -- fgaincod
+    ∷ row 0 1  -- deltbaie
+    ∷ row 0 1  -- skiple
+    ∷ []
+
+abbrev pub first_block_rows : ℕ → ℕ → List ℕ → List Row
+first_block_rows bw first groups = strategy_rows bw first ++ (group_rows groups ++ allocation_rows)
+
+-- a later block up to deltbaie: all is as in the block before
+unfoldable pub reuse_rows : List Row
+reuse_rows =
+    row 0 1  -- blksw
+    ∷ row 0 1  -- dithflag
+    ∷ row 0 1  -- dynrnge
+    ∷ row 0 1  -- cplstre
+    ∷ row 0 2  -- chexpstr: reuse
+    ∷ row 0 1  -- baie
+    ∷ row 0 1  -- snroffste
+    ∷ row 0 1  -- deltbaie
+    ∷ []
+
+-- skiple, and where it is 1 skipl and so many bytes of 0
+unfoldable pub skip_rows : Option ℕ → List Row
+skip_rows None = row 0 1 ∷ []
+skip_rows (Some skipl) = row 1 1 ∷ row skipl 9 ∷ row 0 (8 * skipl) ∷ []
+
+abbrev pub later_block_rows : Option ℕ → List Row
+later_block_rows skipl = reuse_rows ++ skip_rows skipl
+
+-- blocks 1 to 5, whose skip fields take x bits
+unfoldable pub later_rows : ℕ → List Row
+later_rows x =
+    later_block_rows (skip x 1)
+    ++ (later_block_rows (skip x 2)
+    ++ (later_block_rows (skip x 3)
+    ++ (later_block_rows (skip x 4)
+    ++ later_block_rows (skip x 5))))
+
+-- auxdata, and errorcheck up to crc2 (A/52 5.3.4 and 5.4.4, 5.3.5 and 5.4.5)
+unfoldable pub tail_rows : ℕ → ℕ → List Row
+tail_rows aux crcrsv =
+    row 0 aux  -- auxbits
+    ∷ row 0 1  -- auxdatae
+    ∷ row crcrsv 1  -- crcrsv
+    ∷ []
+
+-- the end of the bins of a channel of its own bandwidth (A/52 7.1.3: endmant)
+abbrev pub end_bin : ℕ → ℕ
+end_bin bw = 37 + 3 * (bw + 12)
+
+-- the groups of D45 exponents up to an end bin (A/52 7.1.3: nchgrps)
+abbrev pub d45_groups : ℕ → ℕ
+d45_groups end = (end + 8) / 12
+
+-- the bits of all fields without padding: head, block 0, its exponents with chbwcod and
+-- gainrng, five later blocks, and auxdatae, crcrsv and crc2
+abbrev pub total_bits : ℕ → ℕ
+total_bits groups = 65 + 35 + (12 + 7 * groups) + 5 * 10 + 18
+
+-- all rows between crc1 and crc2
+unfoldable pub body_rows : ℕ → ℕ → ℕ → ℕ → ℕ → List ℕ → ℕ → List Row
+body_rows fscod frmsizecod words bw first groups crcrsv =
+    let total = total_bits (length groups) in
+    head_rows fscod frmsizecod
+    ++ (first_block_rows bw first groups
+    ++ (later_rows (to_skip words total 0)
+    ++ tail_rows (aux_bits words total 0) crcrsv))
+
+-- all rows
+unfoldable pub plain_rows : ℕ → ℕ → ℕ → ℕ → ℕ → List ℕ → ℕ → ℕ → ℕ → List Row
+plain_rows fscod frmsizecod words bw first groups crc1 crcrsv crc2 =
+    row 0x0B77 16  -- syncword
+    ∷ row crc1 16  -- crc1
+    ∷ (body_rows fscod frmsizecod words bw first groups crcrsv
+    ++ row crc2 16 ∷ [])
+
+-- the bits that crc1 makes whole: the first CRC part without the syncword (A/52 7.10.1)
+abbrev pub front_part : ℕ → List Bool → List Bool
+front_part words frame = drop 16 (take (front_room words) frame)
+
+-- the bits that crc2 makes whole: the frame without the syncword
+abbrev pub all_part : List Bool → List Bool
+all_part frame = drop 16 frame
+
+-- a size that a frame may have, and no more groups than the widest channel has
+pub record IsSized (words : ℕ) (groups : List ℕ) : Type 0 where
+  pub least : 64 ≤ words
+  pub most : words ≤ 1920
+  pub few : length groups ≤ 21
+
+-- each is a byte
+abbrev pub AreBytes : List ℕ → Type 0
+AreBytes frame = (k : ℕ) → k < length frame → slice_index frame k < 2 ^ 8
+
+-- These bytes are the plain frame. crcrsv is 0, or 1 where crc2 would else be the syncword.
+pub record IsPlain (fscod frmsizecod words bw first : ℕ) (groups frame : List ℕ) : Type 0 where
+  pub crc1 : ℕ
+  pub crcrsv : ℕ
+  pub crc2 : ℕ
+  pub fit : (crc1 < 2 ^ 16) × (crc2 < 2 ^ 16)
+  pub whole : bits_of frame ≡ spell (plain_rows fscod frmsizecod words bw first groups crc1 crcrsv crc2)
+  pub front : IsRemainder (front_part words (bits_of frame)) 0
+  pub all : IsRemainder (all_part (bits_of frame)) 0
+  pub reserved : ((crcrsv ≡ 0) × (crc2 ≢ 0x0B77)) ⊎ ((crcrsv ≡ 1) × IsRemainder (all_part (spell (plain_rows fscod frmsizecod words bw first groups crc1 0 0x0B77))) 0)

@@ -1,0 +1,19 @@
+//! Whole frames (A/52 5.3): the plain frame, which carries exponents and no mantissas.
+//!
+//! A frame is stated as the concatenation of its rows, each a field with its number and its
+//! width, in the order of A/52 5.3. Its size in words, its padding and both CRC words belong
+//! to the statement.
+#![tactic(auto)]
+
+mod blocks;
+mod frame;
+mod head;
+mod law;
+mod padding;
+mod rows;
+mod size;
+
+pub use frame::plain;
+pub use law::plain_law;
+pub use rows::Row;
+pub use size::Size;
