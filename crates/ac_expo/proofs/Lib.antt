@@ -1,0 +1,4 @@
+pub mod Zeros
+pub mod Walk
+pub mod Spread
+pub mod Minima

@@ -1,0 +1,5 @@
+pub mod Raw
+pub mod Spans
+pub mod Steps
+pub mod Least
+pub mod Greatest

@@ -1,0 +1,14 @@
+//! Exponents of runs of blocks: raw exponents, the greatest list that a strategy can spell, its groups, and the
+//! strategy codes (A/52 7.1).
+#![tactic(auto)]
+
+mod lists;
+mod raw;
+mod run;
+mod smooth;
+mod steps;
+
+pub use lists::greatest;
+pub use raw::raw_exponent;
+pub use run::Run;
+pub use steps::groups;
