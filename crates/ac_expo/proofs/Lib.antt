@@ -2,3 +2,4 @@ pub mod Zeros
 pub mod Walk
 pub mod Spread
 pub mod Minima
+pub mod Laws

@@ -1,6 +1,8 @@
 -- The least raw exponents of bins and steps.
 use Rattle.std.proofs.Common.{◌≡◌, ℕ, suc, zero, ◌+◌, ◌*◌, ◌<◌, ◌≤◌, ◌-◌, ◌⊎◌, min, List, [], length, slice_index, slice_index_or, get_or-set_same, get_or-set_other, set, refl, sym, ap, ◌∙◌, inl, inr, arith, subst}
-use Rattle.std.proofs.lemmas.Bool.{cases_eq, eq-eqb, ne_eqb}
+use Rattle.std.specs.Prelude.{replicate, take}
+use Rattle.std.proofs.lemmas.Bool.{cases_eq, cases_lt, eq-eqb, ne_eqb}
+use Rattle.std.proofs.lemmas.List.{get_or-replicate, get_or_past, length-replicate, get_or-take, length-take-le}
 use Rattle.ac_base.specs.declared.shape.Span.{Span}
 use Rattle.ac_expo.specs.Steps.{step_of}
 use Rattle.ac_expo.specs.Greatest.{bin_least, step_least}
@@ -95,4 +97,35 @@ step_ge kind span f (suc n) g x small each =
     elim (cases_eq (step_of kind span (span.start + n)) g) [
       | inl e ↦ let now = each n (omega arith) e in omega (arith, step_same kind span f n g e)
       | inr ne ↦ omega (arith, step_other kind span f n g ne)
+    ]
+
+pub step_least-same : (kind : ℕ) (span : Span) (f h : ℕ → ℕ) (n g : ℕ) → ((i : ℕ) → i < n → f (span.start + i) ≡ h (span.start + i)) → step_least kind span f n g ≡ step_least kind span h n g
+step_least-same kind span f h zero g same = step_none kind span f 0 g refl ∙ sym (step_none kind span h 0 g refl)
+step_least-same kind span f h (suc n) g same =
+    let old = step_least-same kind span f h n g (λ i l. same i (omega arith)) in
+    elim (cases_eq (step_of kind span (span.start + n)) g) [
+      | inl e ↦ let now = same n (omega arith) in omega (arith, step_same kind span f n g e, step_same kind span h n g e)
+      | inr ne ↦ omega (arith, step_other kind span f n g ne, step_other kind span h n g ne)
+    ]
+
+-- ---- lists of numbers at most 24
+pub small_start : (g : ℕ) → slice_index (replicate {A = ℕ} 256 24) g ≤ 24
+small_start g =
+    elim (cases_lt g 256) [
+      | inl h ↦ omega (arith, get_or-replicate {A = ℕ} 256 g 24 0 h)
+      | inr h ↦ omega (arith, get_or_past {X = ℕ} (replicate 256 24) g 0 (omega (arith, length-replicate {A = ℕ} 256 24)))
+    ]
+
+pub small_set : (s : List ℕ) (i v : ℕ) → i < length s → v ≤ 24 → ((g : ℕ) → slice_index s g ≤ 24) → (g : ℕ) → slice_index (set s i v) g ≤ 24
+small_set s i v room small before g =
+    elim (cases_eq g i) [
+      | inl e ↦ subst (λ x. slice_index (set s i v) x ≤ 24) (sym e) (omega (arith, get_or-set_same s i v 0 room))
+      | inr ne ↦ omega (arith, get_or-set_other s i g v 0 ne, before g)
+    ]
+
+pub small_take : (n : ℕ) (s : List ℕ) → n ≤ length s → ((g : ℕ) → slice_index s g ≤ 24) → (g : ℕ) → slice_index (take n s) g ≤ 24
+small_take n s within before g =
+    elim (cases_lt g n) [
+      | inl h ↦ omega (arith, get_or-take n s g 0 h, before g)
+      | inr h ↦ omega (arith, get_or_past (take n s) g 0 (omega (arith, length-take-le n s within)))
     ]

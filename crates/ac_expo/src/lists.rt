@@ -38,7 +38,8 @@ fn least_of_blocks(raw: &[[u8; 256]; 6], run: &Run, span: &Span) -> [u8; 256]
 fn least_of_steps(bins: &[u8; 256], kind: u8, span: &Span) -> [u8; 256]
     requires kind { IsKind kind span.now }
     requires span { IsSpan span.now }
-    ensures { (g : ℕ) → g < 256 → slice_index result g ≡ step_least kind span.now (slice_index bins.now) (span.now.end - span.now.start) g }
+    ensures value { (g : ℕ) → g < 256 → slice_index result g ≡ step_least kind span.now (slice_index bins.now) (span.now.end - span.now.start) g }
+    ensures small { (g : ℕ) → slice_index result g ≤ 24 }
 {
     let mut steps = [24; 256];
     for k in usize::from(span.start)..usize::from(span.end) {
@@ -50,6 +51,8 @@ fn least_of_steps(bins: &[u8; 256], kind: u8, span: &Span) -> [u8; 256]
 
 /// The exponent of bin 0 has 4 bits, where it is no step of the coupling channel.
 fn cap(lead: Lead, steps: &mut [u8; 256])
+    requires { (g : ℕ) → slice_index steps.old g ≤ 24 }
+    ensures small { (g : ℕ) → slice_index steps.new g ≤ 24 }
     ensures first { slice_index steps.new 0 ≡ capped (is_coupling lead) 0 (slice_index steps.old 0) }
     ensures others { (k : ℕ) → 0 < k → slice_index steps.new k ≡ slice_index steps.old k }
 {
