@@ -3,3 +3,5 @@ pub mod Walk
 pub mod Spread
 pub mod Minima
 pub mod Laws
+pub mod Kept
+pub mod Places

@@ -3,3 +3,5 @@ pub mod Spans
 pub mod Steps
 pub mod Least
 pub mod Greatest
+pub mod Spelling
+pub mod Groups

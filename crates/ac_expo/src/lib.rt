@@ -6,9 +6,11 @@ mod lists;
 mod raw;
 mod run;
 mod smooth;
+mod spelled;
 mod steps;
 
 pub use lists::greatest;
 pub use raw::raw_exponent;
 pub use run::Run;
+pub use spelled::Spelled;
 pub use steps::groups;

@@ -1,0 +1,139 @@
+-- The first bins of steps, and the exponents of steps of a list that can be spelled.
+use Rattle.std.proofs.Common.{◌≡◌, ℕ, zero, suc, ◌+◌, ◌-◌, ◌*◌, ◌/◌, ◌<◌, ◌≤◌, ◌⊎◌, min, Bool, true, false, List, slice_index, inl, inr, arith, refl, ap, sym, ◌∙◌, subst}
+use Rattle.std.specs.Prelude.{nat_lt}
+use Rattle.std.proofs.lemmas.Bool.{cases_eq, cases_lt, lt-ltb, le-ltb, eq-eqb, ne_eqb}
+use Rattle.ac_base.specs.declared.shape.Lead.{Lead}
+use Rattle.ac_base.specs.declared.shape.Lead.TheVariants.{Free, Coupled, Coupling, Low}
+use Rattle.ac_base.specs.declared.shape.Span.{Span}
+use Rattle.ac_expo.specs.Spans.{IsIn, IsSpan, IsKind, IsRange, is_coupling}
+use Rattle.ac_expo.specs.Steps.{width, ahead, step_of, bin_of, groups_of, last_step}
+use Rattle.ac_expo.specs.Greatest.{IsSpellable}
+use Rattle.ac_expo.specs.Groups.{first_of, reference, past, at_step}
+use Rattle.ac_expo.proofs.Walk.{IsWalk, IsOneOf, walk, rises, origin, span_kind, start_before_end}
+
+-- the step of its first bin; a is at most the width, and less where step 0 has a bin
+place_up : (kind start a g : ℕ) → IsOneOf kind → a ≤ width kind → 0 < g → (start + (g * width kind - a) - start + a) / width kind ≡ g
+place_up kind start a g one small some =
+    let P : ℕ → Type 0 = λ n. a ≤ width n → (start + (g * width n - a) - start + a) / width n ≡ g in
+    let R : P kind = elim one [
+      | inl e ↦ subst P (sym e) (λ l. omega arith)
+      | inr more ↦ elim more [ inl e ↦ subst P (sym e) (λ l. omega arith) | inr e ↦ subst P (sym e) (λ l. omega arith) ]
+    ] in R small
+
+-- a bin of this step or a later one isn't before it
+place_low : (kind start a g k : ℕ) → IsOneOf kind → start ≤ k → g ≤ (k - start + a) / width kind → start + (g * width kind - a) ≤ k
+place_low kind start a g k one from up =
+    let P : ℕ → Type 0 = λ n. g ≤ (k - start + a) / width n → start + (g * width n - a) ≤ k in
+    let R : P kind = elim one [
+      | inl e ↦ subst P (sym e) (λ l. omega arith)
+      | inr more ↦ elim more [ inl e ↦ subst P (sym e) (λ l. omega arith) | inr e ↦ subst P (sym e) (λ l. omega arith) ]
+    ] in R up
+
+ahead_small : (kind : ℕ) (lead : Lead) → ahead kind lead ≤ width kind
+ahead_small kind Free = omega arith
+ahead_small kind Coupled = omega arith
+ahead_small kind Coupling = omega arith
+ahead_small kind Low = omega arith
+
+pub step_of_bin : (kind : ℕ) (span : Span) (g : ℕ) → IsOneOf kind → 0 < g → step_of kind span (bin_of kind span g) ≡ g
+unfolding step_of bin_of
+step_of_bin kind span g one some = place_up kind span.start (ahead kind span.lead) g one (ahead_small kind span.lead) some
+
+pub bin_from : (kind : ℕ) (span : Span) (g : ℕ) → span.start ≤ bin_of kind span g
+unfolding bin_of
+bin_from kind span g = omega arith
+
+pub bin_low : (kind : ℕ) (span : Span) (g k : ℕ) → IsOneOf kind → span.start ≤ k → g ≤ step_of kind span k → bin_of kind span g ≤ k
+unfolding step_of bin_of
+bin_low kind span g k one from up = place_low kind span.start (ahead kind span.lead) g k one from up
+
+-- ---- the exponents of steps
+pub at_first : (kind : ℕ) (span : Span) (exps : List ℕ) → at_step kind span exps 0 ≡ reference span.lead (first_of span exps)
+unfolding at_step
+at_first kind span exps = refl
+
+pub at_bin : (kind : ℕ) (span : Span) (exps : List ℕ) (g : ℕ) → 0 < g → bin_of kind span g < span.end → at_step kind span exps g ≡ slice_index exps (bin_of kind span g)
+unfolding at_step
+at_bin kind span exps g some inside =
+    let e : (g ≡ 0 → ⊥) = λ z. omega arith in
+    rw (ne_eqb _ _ e, lt-ltb _ _ inside) refl
+
+pub at_past : (kind : ℕ) (span : Span) (exps : List ℕ) (g : ℕ) → 0 < g → span.end ≤ bin_of kind span g → at_step kind span exps g ≡ past kind span exps g
+unfolding at_step
+at_past kind span exps g some outside =
+    let e : (g ≡ 0 → ⊥) = λ z. omega arith in
+    rw (ne_eqb _ _ e, le-ltb _ _ outside) refl
+
+past-is : (kind : ℕ) (span : Span) (exps : List ℕ) (g : ℕ) → past kind span exps g ≡ min 24 (slice_index exps (span.end - 1) + 2 * (g - step_of kind span (span.end - 1)))
+unfolding past
+past-is kind span exps g = refl
+
+pub record IsPlaced (kind : ℕ) (span : Span) (exps : List ℕ) : Type 0 where
+  pub one : IsOneOf kind
+  pub some : span.start < span.end
+  pub walk : IsWalk (step_of kind span) span.start span.end (last_step kind span)
+  pub can : IsSpellable kind span exps
+
+pub placed : (kind : ℕ) (span : Span) (exps : List ℕ) → IsSpan span → IsKind kind span → IsSpellable kind span exps → IsPlaced kind span exps
+placed kind span exps is_span is_kind can =
+    record {
+      one = span_kind span.lead kind is_kind.0 is_kind.1;
+      some = (start_before_end span.lead span.start span.end is_span).0;
+      walk = (walk kind span is_span is_kind).0;
+      can = can;
+    }
+
+-- the exponent of a bin is that of its step, where the step isn't 0
+pub at_step_of : (kind : ℕ) (span : Span) (exps : List ℕ) → IsPlaced kind span exps → (k : ℕ) → IsIn span k → 0 < step_of kind span k → at_step kind span exps (step_of kind span k) ≡ slice_index exps k
+at_step_of kind span exps p k inside some =
+    let g = step_of kind span k in
+    let low = bin_low kind span g k p.one inside.0 (omega arith) in
+    let from = bin_from kind span g in
+    at_bin kind span exps g some (omega arith) ∙ p.can.constant (bin_of kind span g) k (from, omega arith) inside (step_of_bin kind span g p.one some)
+
+pub step_up_to : (kind : ℕ) (span : Span) (last : ℕ) → IsWalk (step_of kind span) span.start span.end last → (j k : ℕ) → span.start ≤ j → j ≤ k → step_of kind span j ≤ step_of kind span k
+step_up_to kind span last w j k from l =
+    let e : j + (k - j) ≡ k = omega arith in
+    let P : ℕ → Type 0 = λ x. step_of kind span j ≤ step_of kind span x in
+    subst P e (rises (step_of kind span) span.start w.up j (k - j) from)
+
+abbrev Near : ℕ → ℕ → Type 0
+Near a b = (b ≤ a + 2) × (a ≤ b + 2)
+
+near_past : (e s g : ℕ) → s < g → Near (min 24 (e + 2 * (g - s))) (min 24 (e + 2 * (g + 1 - s)))
+near_past e s g l = (omega arith, omega arith)
+
+-- neighbours are within 2, from step 1 on
+near_later : (kind : ℕ) (span : Span) (exps : List ℕ) → IsPlaced kind span exps → (g : ℕ) → 0 < g → Near (at_step kind span exps g) (at_step kind span exps (g + 1))
+near_later kind span exps p g some =
+    let s = step_of kind span (span.end - 1) in
+    let from = bin_from kind span g in
+    let from2 = bin_from kind span (g + 1) in
+    let at = step_of_bin kind span g p.one some in
+    let at2 = step_of_bin kind span (g + 1) p.one (omega arith) in
+    elim (cases_lt (bin_of kind span (g + 1)) span.end) [
+      | inl inside2 ↦
+          let up = step_up_to kind span (last_step kind span) p.walk (bin_of kind span (g + 1)) (span.end - 1) from2 (omega arith) in
+          let low = bin_low kind span g (span.end - 1) p.one (omega arith) (omega arith) in
+          let n = p.can.near (bin_of kind span g) (bin_of kind span (g + 1)) (from, omega arith) (from2, inside2) (omega arith) in
+          let a = at_bin kind span exps g some (omega arith) in
+          let b = at_bin kind span exps (g + 1) (omega arith) inside2 in
+          (omega arith, omega arith)
+      | inr past2 ↦
+          let b = at_past kind span exps (g + 1) (omega arith) past2 ∙ past-is kind span exps (g + 1) in
+          let last : s < g + 1 = elim (cases_lt s (g + 1)) [ inl l ↦ l | inr l ↦ absurd (let low = bin_low kind span (g + 1) (span.end - 1) p.one (omega arith) l in let some_ = p.some in omega arith) ] in
+          elim (cases_lt (bin_of kind span g) span.end) [
+            | inl inside ↦
+                let up = step_up_to kind span (last_step kind span) p.walk (bin_of kind span g) (span.end - 1) from (omega arith) in
+                let a = at_bin kind span exps g some inside in
+                let e = p.can.constant (bin_of kind span g) (span.end - 1) (from, inside) (omega arith, omega arith) (omega arith) in
+                let small = p.can.small (span.end - 1) (omega arith, omega arith) in
+                let one : g + 1 - s ≡ 1 = omega arith in
+                (omega arith, omega arith)
+            | inr past1 ↦
+                let a = at_past kind span exps g some past1 ∙ past-is kind span exps g in
+                let less : s < g = elim (cases_lt s g) [ inl l ↦ l | inr l ↦ absurd (let low = bin_low kind span g (span.end - 1) p.one (omega arith) l in let some_ = p.some in omega arith) ] in
+                let n = near_past (slice_index exps (span.end - 1)) s g less in
+                (omega arith, omega arith)
+          ]
+    ]
