@@ -5,3 +5,4 @@ pub mod Minima
 pub mod Laws
 pub mod Kept
 pub mod Places
+pub mod Spellings

@@ -1,6 +1,7 @@
 -- The first bins of steps, and the exponents of steps of a list that can be spelled.
 use Rattle.std.proofs.Common.{◌≡◌, ℕ, zero, suc, ◌+◌, ◌-◌, ◌*◌, ◌/◌, ◌<◌, ◌≤◌, ◌⊎◌, min, Bool, true, false, List, slice_index, inl, inr, arith, refl, ap, sym, ◌∙◌, subst}
-use Rattle.std.specs.Prelude.{nat_lt}
+use Rattle.std.specs.Prelude.{nat_lt, if◌then◌else◌}
+use Rattle.std.proofs.lemmas.Nat.{le-div}
 use Rattle.std.proofs.lemmas.Bool.{cases_eq, cases_lt, lt-ltb, le-ltb, eq-eqb, ne_eqb}
 use Rattle.ac_base.specs.declared.shape.Lead.{Lead}
 use Rattle.ac_base.specs.declared.shape.Lead.TheVariants.{Free, Coupled, Coupling, Low}
@@ -137,3 +138,110 @@ near_later kind span exps p g some =
                 (omega arith, omega arith)
           ]
     ]
+
+-- ---- the first step
+width_some : (kind : ℕ) → IsOneOf kind → 0 < width kind
+width_some kind one =
+    let P : ℕ → Type 0 = λ n. 0 < width n in
+    elim one [
+      | inl e ↦ subst P (sym e) (omega arith)
+      | inr more ↦ elim more [ inl e ↦ subst P (sym e) (omega arith) | inr e ↦ subst P (sym e) (omega arith) ]
+    ]
+
+bin_one : (w start : ℕ) → 0 < w → (start + (1 * w - w) ≡ start) × (start + (1 * w - (w - 1)) ≡ start + 1)
+bin_one w start some = (omega arith, omega arith)
+
+bin_one_at : (kind : ℕ) (start : ℕ) (c : Bool) → IsOneOf kind → (c ≡ true → start + (1 * width kind - (if c then width kind else width kind - 1)) ≡ start) × (c ≡ false → start + (1 * width kind - (if c then width kind else width kind - 1)) ≡ start + 1)
+bin_one_at kind start true one = ((λ e. (bin_one (width kind) start (width_some kind one)).0), (λ e. cc))
+bin_one_at kind start false one = ((λ e. cc), (λ e. (bin_one (width kind) start (width_some kind one)).1))
+
+pub first_bin : (kind : ℕ) (span : Span) → IsOneOf kind → (is_coupling span.lead ≡ true → bin_of kind span 1 ≡ span.start) × (is_coupling span.lead ≡ false → bin_of kind span 1 ≡ span.start + 1)
+unfolding bin_of
+first_bin kind span one = bin_one_at kind span.start (is_coupling span.lead) one
+
+not_before : (w x : ℕ) → 0 < w → 1 ≤ (x + w) / w
+not_before w x some = le-div 1 (x + w) w some (omega arith)
+
+step_some_at : (kind x : ℕ) (c : Bool) → IsOneOf kind → c ≡ true → 1 ≤ (x + (if c then width kind else width kind - 1)) / width kind
+step_some_at kind x true one e = not_before (width kind) x (width_some kind one)
+step_some_at kind x false one e = cc
+
+-- each step of the coupling channel's bins is above 0
+pub step_some : (kind : ℕ) (span : Span) (k : ℕ) → IsOneOf kind → is_coupling span.lead ≡ true → 1 ≤ step_of kind span k
+unfolding step_of
+step_some kind span k one e = step_some_at kind (k - span.start) (is_coupling span.lead) one e
+
+wide : (lead : Lead) (start end : ℕ) → IsRange lead start end → is_coupling lead ≡ false → (start ≡ 0) × (start + 1 < end)
+wide Free start end range free = (omega arith, omega arith)
+wide Coupled start end range free = (omega arith, omega arith)
+wide Coupling start end range free = cc
+wide Low start end range free = (omega arith, omega arith)
+
+reference_is : (c : Bool) (a b : ℕ) → (c ≡ true → (if c then 2 * (if c then a / 2 else b) else (if c then a / 2 else b)) ≡ 2 * (a / 2)) × (c ≡ false → (if c then 2 * (if c then a / 2 else b) else (if c then a / 2 else b)) ≡ b)
+reference_is true a b = (λ e. refl, λ e. cc)
+reference_is false a b = (λ e. cc, λ e. refl)
+
+pub at_first_is : (kind : ℕ) (span : Span) (exps : List ℕ) → (is_coupling span.lead ≡ true → at_step kind span exps 0 ≡ 2 * (slice_index exps span.start / 2)) × (is_coupling span.lead ≡ false → at_step kind span exps 0 ≡ slice_index exps 0)
+unfolding at_step
+at_first_is kind span exps = reference_is (is_coupling span.lead) (slice_index exps span.start) (slice_index exps 0)
+
+true_or_false : (c : Bool) → (c ≡ true) ⊎ (c ≡ false)
+true_or_false true = inl refl
+true_or_false false = inr refl
+
+near_first : (kind : ℕ) (span : Span) (exps : List ℕ) → IsSpan span → IsPlaced kind span exps → Near (at_step kind span exps 0) (at_step kind span exps 1)
+near_first kind span exps is_span p =
+    let b = first_bin kind span p.one in
+    let a = at_first_is kind span exps in
+    elim (true_or_false (is_coupling span.lead)) [
+      | inl joined ↦
+          let e = b.0 joined in
+          let some = p.some in
+          let a1 = at_bin kind span exps 1 (omega arith) (omega arith) ∙ ap (slice_index exps) e in
+          let a0 = a.0 joined in
+          (omega arith, omega arith)
+      | inr free ↦
+          let e = b.1 free in
+          let l = wide span.lead span.start span.end is_span free in
+          let a1 = at_bin kind span exps 1 (omega arith) (omega arith) in
+          let a0 = a.1 free in
+          let o = origin span.lead span.start span.end kind is_span p.one free in
+          let at = step_of_bin kind span 1 p.one (omega arith) in
+          let n = p.can.near 0 (bin_of kind span 1) (omega arith, omega arith) (omega arith, omega arith) (omega arith) in
+          (omega arith, omega arith)
+    ]
+
+pub near_steps : (kind : ℕ) (span : Span) (exps : List ℕ) → IsSpan span → IsPlaced kind span exps → (g : ℕ) → (at_step kind span exps (g + 1) ≤ at_step kind span exps g + 2) × (at_step kind span exps g ≤ at_step kind span exps (g + 1) + 2)
+near_steps kind span exps is_span p g =
+    elim (cases_eq g 0) [
+      | inl e ↦ let P : ℕ → Type 0 = λ x. Near (at_step kind span exps x) (at_step kind span exps (x + 1)) in subst P (sym e) (near_first kind span exps is_span p)
+      | inr ne ↦ near_later kind span exps p g (omega arith)
+    ]
+
+pub at_small : (kind : ℕ) (span : Span) (exps : List ℕ) → IsSpan span → IsPlaced kind span exps → (g : ℕ) → at_step kind span exps g ≤ 24
+at_small kind span exps is_span p g =
+    let some = p.some in
+    elim (cases_eq g 0) [
+      | inl e ↦
+          let a = at_first_is kind span exps in
+          subst (λ x. at_step kind span exps x ≤ 24) (sym e) (elim (true_or_false (is_coupling span.lead)) [
+            | inl joined ↦ let a0 = a.0 joined in let s = p.can.small span.start (omega arith, omega arith) in omega arith
+            | inr free ↦ let a0 = a.1 free in let f = p.can.first free in omega arith
+          ])
+      | inr ne ↦
+          elim (cases_lt (bin_of kind span g) span.end) [
+            | inl inside ↦ let a = at_bin kind span exps g (omega arith) inside in let s = p.can.small (bin_of kind span g) (bin_from kind span g, inside) in omega arith
+            | inr outside ↦ let a = at_past kind span exps g (omega arith) outside ∙ past-is kind span exps g in omega arith
+          ]
+    ]
+
+cap : (c : Bool) (a b : ℕ) → a ≤ 24 → (c ≡ false → b ≤ 15) → (if c then a / 2 else b) ≤ 15
+cap true a b small first = omega arith
+cap false a b small first = first refl
+
+pub first_small : (kind : ℕ) (span : Span) (exps : List ℕ) → IsPlaced kind span exps → first_of span exps ≤ 15
+first_small kind span exps p =
+    let some = p.some in
+    let s = p.can.small span.start (omega arith, omega arith) in
+    let f = p.can.first in
+    cap (is_coupling span.lead) (slice_index exps span.start) (slice_index exps 0) s f

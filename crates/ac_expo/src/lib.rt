@@ -2,6 +2,7 @@
 //! strategy codes (A/52 7.1).
 #![tactic(auto)]
 
+mod grouping;
 mod lists;
 mod raw;
 mod run;
@@ -9,6 +10,7 @@ mod smooth;
 mod spelled;
 mod steps;
 
+pub use grouping::group;
 pub use lists::greatest;
 pub use raw::raw_exponent;
 pub use run::Run;
