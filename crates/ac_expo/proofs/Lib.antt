@@ -6,3 +6,4 @@ pub mod Laws
 pub mod Kept
 pub mod Places
 pub mod Spellings
+pub mod Refusals

@@ -51,15 +51,15 @@ group_small kind span exps is_span p place =
     let c = mapped_small kind span exps is_span p (3 * place + 2) in
     omega arith
 
-mapped_zero : (groups : List ℕ) (i : ℕ) → i % 3 ≡ 0 → mapped_of groups i ≡ slice_index groups (i / 3) / 25
+pub mapped_zero : (groups : List ℕ) (i : ℕ) → i % 3 ≡ 0 → mapped_of groups i ≡ slice_index groups (i / 3) / 25
 unfolding mapped_of
 mapped_zero groups i e = rw (eq-eqb _ _ e) refl
 
-mapped_one : (groups : List ℕ) (i : ℕ) → i % 3 ≡ 1 → mapped_of groups i ≡ slice_index groups (i / 3) / 5 % 5
+pub mapped_one : (groups : List ℕ) (i : ℕ) → i % 3 ≡ 1 → mapped_of groups i ≡ slice_index groups (i / 3) / 5 % 5
 unfolding mapped_of
 mapped_one groups i e = let ne : (i % 3 ≡ 0 → ⊥) = λ z. omega arith in rw (ne_eqb _ _ ne, eq-eqb _ _ e) refl
 
-mapped_two : (groups : List ℕ) (i : ℕ) → i % 3 ≡ 2 → mapped_of groups i ≡ slice_index groups (i / 3) % 5
+pub mapped_two : (groups : List ℕ) (i : ℕ) → i % 3 ≡ 2 → mapped_of groups i ≡ slice_index groups (i / 3) % 5
 unfolding mapped_of
 mapped_two groups i e = let ne : (i % 3 ≡ 0 → ⊥) = λ z. omega arith in let ne1 : (i % 3 ≡ 1 → ⊥) = λ z. omega arith in rw (ne_eqb _ _ ne, ne_eqb _ _ ne1) refl
 
@@ -98,7 +98,7 @@ sum_back kind span exps is_span p (suc n) l =
     let P : ℕ → Type 0 = λ x. sum_to span.lead (spelled_of kind span exps) x ≡ at_step kind span exps x + 2 * x in
     subst P e (omega arith)
 
-true_or_false : (c : Bool) → (c ≡ true) ⊎ (c ≡ false)
+pub true_or_false : (c : Bool) → (c ≡ true) ⊎ (c ≡ false)
 true_or_false true = inl refl
 true_or_false false = inr refl
 

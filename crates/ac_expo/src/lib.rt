@@ -2,6 +2,7 @@
 //! strategy codes (A/52 7.1).
 #![tactic(auto)]
 
+mod expanding;
 mod grouping;
 mod lists;
 mod raw;
@@ -10,6 +11,7 @@ mod smooth;
 mod spelled;
 mod steps;
 
+pub use expanding::{BadExponent, expand};
 pub use grouping::group;
 pub use lists::greatest;
 pub use raw::raw_exponent;
