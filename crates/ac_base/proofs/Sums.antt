@@ -1,5 +1,6 @@
 -- Bounds of sums of products, and the step of a sum.
-use Rattle.std.proofs.Common.{◌≡◌, ℕ, zero, suc, ◌+◌, ◌*◌, ◌/◌, ◌^◌, ◌<◌, ◌≤◌, ℤ, pos, ◌+ℤ◌, ◌*ℤ◌, List, slice_index_or, unsigned_abs, arith, add-one, refl}
+use Rattle.std.proofs.Common.{◌≡◌, ℕ, zero, suc, ◌+◌, ◌*◌, ◌/◌, ◌^◌, ◌<◌, ◌≤◌, ℤ, pos, ◌+ℤ◌, ◌*ℤ◌, List, slice_index_or, unsigned_abs, arith, add-one, refl, inl, inr}
+use Rattle.std.specs.Prelude.{◌⊎◌}
 use Rattle.std.proofs.lemmas.Int.{ints, unsigned_abs-mul}
 use Rattle.std.proofs.lemmas.Nat.{mul-le}
 use Rattle.ac_base.specs.Sigma.{sigma, dot_of, Within}
@@ -40,3 +41,7 @@ room n i a b sum some left right is below =
     let next = product_bound n (2 ^ 32 / n) (2 ^ 30) i a b left right below in
     let turns = mul-le (i + 1) (2 ^ 32 / n) n (2 ^ 32 / n) (omega arith) (omega arith) in
     rw is (omega arith)
+
+-- a sum of 256 or 512 products has some
+pub some_products : (n : ℕ) → (n ≡ 256) ⊎ (n ≡ 512) → 0 < n
+some_products n size = elim size [ inl few ↦ omega arith | inr many ↦ omega arith ]

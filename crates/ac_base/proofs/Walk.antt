@@ -28,11 +28,11 @@ is_pos_means (negsuc n) m passed = cc
 pub walk_at : (xs : List ℤ) (j : ℕ) → walks angle xs (pair_at j).0 (pair_at j).1 ≡ true → (k : ℕ) → k < length xs → slice_index_or xs k (pos 0) ≡ pos (cosine_of (j + k))
 walk_at [] j passed k below = absurd (omega arith)
 walk_at (x ∷ xs) j passed zero below =
-    let parts = both _ _ passed in
+    let parts : (is_pos x (((pair_at j).0 + 2 ^ 29) / 2 ^ 30) ≡ true) × (walks angle xs (pair_at j).1 (min (2 * angle * (pair_at j).1 / 2 ^ 60 - (pair_at j).0) (2 ^ 60)) ≡ true) = both _ _ passed in
     let here = is_pos_means x _ parts.0 in
     here ∙ ap pos (sym (cosine_is j)) ∙ ap (λ n. pos (cosine_of n)) (omega arith)
 walk_at (x ∷ xs) j passed (suc k) below =
-    let parts = both _ _ passed in
+    let parts : (is_pos x (((pair_at j).0 + 2 ^ 29) / 2 ^ 30) ≡ true) × (walks angle xs (pair_at j).1 (min (2 * angle * (pair_at j).1 / 2 ^ 60 - (pair_at j).0) (2 ^ 60)) ≡ true) = both _ _ passed in
     let place : j + 1 + k ≡ j + suc k = omega arith in
     let room : k < length xs = omega arith in
     let rest : walks angle xs (pair_at (j + 1)).0 (pair_at (j + 1)).1 ≡ true = rw (pair_more j, pair_next j) parts.1 in

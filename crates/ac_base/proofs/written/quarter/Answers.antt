@@ -1,9 +1,0 @@
-use Rattle.std.proofs.Common.{refl}
-use Rattle.ac_base.specs.declared.written.TheConstants.{QUARTER}
-use Rattle.ac_base.specs.Quarter.{root, half, angle}
-use Rattle.ac_base.proofs.Walk.{quarter_walked}
-use Rattle.ac_base.proofs.written.quarter.Goals as goal
-
-pub returns : goal.returns
-unfolding root half angle
-returns c = quarter_walked QUARTER refl refl refl

@@ -1,0 +1,99 @@
+//! The side bits of a frame: the rows of its syntax other than exponents and mantissas.
+ghost use Rattle.std.specs.Prelude.{◌≡◌, ◌≤◌, ◌<◌, ◌+◌, ◌*◌, ℕ, Bool, Option, sum};
+ghost use Rattle.ac_base.specs.Shape.{IsCoupling, subbands, rematrix_bands, is_stereo};
+ghost use Rattle.ac_base.specs.SideBits.{head_rows, first_block_rows, later_block_rows, side_front, side_total, when, head_formula, first_block_formula, later_block_formula};
+
+use crate::shapes::Shape;
+use crate::sizes::Parts;
+
+/// auxdatae, crcrsv and crc2.
+const TAIL: u32 = 18;
+
+/// syncinfo and bsi (A/52 5.3.1, 5.3.2).
+fn head_bits(shape: &Shape) -> u32
+    ensures { result ≡ sum (head_rows shape.now.acmod) }
+{
+    match shape.acmod {
+        1 => 65,
+        5 | 7 => 69,
+        _ => 67,
+    }
+}
+
+/// The subbands of a coupling, from cplbegf to cplendf + 2 (A/52 5.4.3.12).
+fn subband_count(shape: &Shape) -> u32
+    ensures { result ≡ subbands shape.now.couple }
+{
+    match shape.couple {
+        Some((begin, end)) => 3 + u32::from(end) - u32::from(begin),
+        None => 0,
+    }
+}
+
+/// rematstr and rematflg in block 0, for two channels (A/52 5.4.3.19, 7.5.2).
+fn rematrix_bits(shape: &Shape) -> u32
+    ensures { result ≡ when (is_stereo shape.now.acmod) (1 + rematrix_bands shape.now.couple) }
+{
+    match shape.couple {
+        _ if shape.acmod != 2 => 0,
+        Some((0, _)) => 1 + 2,
+        Some((1 | 2, _)) => 1 + 3,
+        _ => 1 + 4,
+    }
+}
+
+/// Block 0 (A/52 5.3.3). Coupling adds its strategy, the coordinates of each channel and band,
+/// and the exponent strategy, offset, gain and leaks of the coupling channel.
+fn first_block_bits(shape: &Shape) -> u32
+    ensures { result ≡ sum (first_block_rows shape.now.acmod shape.now.lfe shape.now.couple) }
+{
+    let full = u32::from(shape.full());
+    let stereo = u32::from(shape.acmod == 2);
+    let bands = subband_count(shape);
+    let plain = 24 + 11 * full + 8 * u32::from(shape.lfe) + rematrix_bits(shape);
+    match shape.couple {
+        Some(_) => plain + 4 * full + 8 * (full * bands) + stereo + bands + 23,
+        None => plain,
+    }
+}
+
+/// A block from 1 to 5 (A/52 5.3.3).
+fn later_block_bits(shape: &Shape) -> u32
+    ensures { result ≡ sum (later_block_rows shape.now.acmod shape.now.lfe shape.now.couple) }
+{
+    let full = u32::from(shape.full());
+    let plain = 6 + 4 * full + u32::from(shape.lfe) + u32::from(shape.acmod == 2);
+    match shape.couple {
+        Some(_) => plain + full + 3,
+        None => plain,
+    }
+}
+
+/// The bits of each part's rows, without exponents, chbwcod, gainrng, skip bytes and mantissas
+/// (A/52 5.3): the head with block 0 and one later block, the whole frame, and nothing.
+#[tactic(auto, unfolding(crate::specs::SideBits::side_front, crate::specs::SideBits::side_total))]
+pub fn side_bits(shape: &Shape) -> Parts
+    ensures front { result.front ≡ side_front shape.now.acmod shape.now.lfe shape.now.couple }
+    ensures total { result.total ≡ side_total shape.now.acmod shape.now.lfe shape.now.couple }
+    ensures last { result.last ≡ 0 }
+{
+    let start = head_bits(shape) + first_block_bits(shape);
+    let later = later_block_bits(shape);
+    Parts {
+        front: start + later,
+        total: start + 5 * later + TAIL,
+        last: 0,
+    }
+}
+
+/// The sums of the rows in closed form, at every layout and coupling.
+pub fn side_bits_law()
+    ensures head { (acmod : ℕ) → 1 ≤ acmod → acmod ≤ 7 → sum (head_rows acmod) ≡ head_formula acmod }
+    ensures first { (acmod : ℕ) → (lfe : Bool) → (couple : Option (ℕ × ℕ)) → 1 ≤ acmod → acmod ≤ 7 → IsCoupling acmod couple →
+        sum (first_block_rows acmod lfe couple) ≡ first_block_formula acmod lfe couple }
+    ensures later { (acmod : ℕ) → (lfe : Bool) → (couple : Option (ℕ × ℕ)) → 1 ≤ acmod → acmod ≤ 7 → IsCoupling acmod couple →
+        sum (later_block_rows acmod lfe couple) ≡ later_block_formula acmod lfe couple }
+{}
+
+#[cfg(test)]
+mod tests;
