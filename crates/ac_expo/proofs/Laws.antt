@@ -1,12 +1,13 @@
 -- The formula gives the greatest list, which is one.
 use Rattle.std.proofs.Common.{◌≡◌, ℕ, suc, zero, ◌+◌, ◌*◌, ◌<◌, ◌≤◌, ◌-◌, ◌⊎◌, min, Bool, true, false, List, [], slice_index, slice_index_or, refl, sym, ap, ◌∙◌, inl, inr, ⊎_elim, arith, subst}
 use Rattle.std.proofs.lemmas.Bool.{cases_eq, cases_lt}
-use Rattle.ac_base.specs.declared.shape.Span.{Span}
-use Rattle.ac_expo.specs.Spans.{IsIn, IsSpan, IsKind, is_coupling}
+use Rattle.ac_base.specs.declared.spans.Span.{Span}
+use Rattle.ac_expo.specs.Spans.{IsIn, IsKind, is_coupling}
+use Rattle.ac_base.specs.Shape.{IsSpan}
 use Rattle.ac_expo.specs.Steps.{step_of, last_step}
 use Rattle.ac_expo.specs.Least.{distance, least, spread}
 use Rattle.ac_expo.specs.Greatest.{IsSpellable, IsUnder, IsGreatest, IsByFormula, FormulaIsGreatest, GreatestIsOne, bin_least, step_least, raw_least, capped, step_exponent, exponent_of}
-use Rattle.ac_expo.proofs.Walk.{IsWalk, walk, rises, origin, span_kind}
+use Rattle.ac_expo.proofs.Walk.{range, IsWalk, walk, rises, origin, span_kind}
 use Rattle.ac_expo.proofs.Spread.{least_le, least_ge, least_same, near_up, near_down, spread_within}
 use Rattle.ac_expo.proofs.Minima.{bin_le, bin_ge, bin_small, step_le, step_ge, step_small, step_least-same}
 use Rattle.std.proofs.lemmas.List.{get_or-take}
@@ -125,7 +126,7 @@ formula kind span raw from to exps is_span is_kind by =
     let w = (walk kind span is_span is_kind).0 in
     let last = last_step kind span in
     let E = step_exponent kind span raw from to in
-    let free_start = origin span.lead span.start span.end kind is_span (span_kind span.lead kind is_kind.0 is_kind.1) in
+    let free_start = origin span.lead span.start span.end kind (range span is_span) (span_kind span.lead kind is_kind.0 is_kind.1) in
     record {
       spellable = record {
         small = λ k inside. let e = by k inside in let l = exponent_le kind span raw from to (step_of kind span k) (w.within k inside.0 inside.1) in let s = step_small kind span (bin_least raw from (to - from)) (span.end - span.start) (step_of kind span k) in omega arith;

@@ -3,7 +3,7 @@ use Rattle.std.proofs.Common.{◌≡◌, ℕ, suc, zero, ◌+◌, ◌*◌, ◌<�
 use Rattle.std.specs.Prelude.{replicate, take}
 use Rattle.std.proofs.lemmas.Bool.{cases_eq, cases_lt, eq-eqb, ne_eqb}
 use Rattle.std.proofs.lemmas.List.{get_or-replicate, get_or_past, length-replicate, get_or-take, length-take-le}
-use Rattle.ac_base.specs.declared.shape.Span.{Span}
+use Rattle.ac_base.specs.declared.spans.Span.{Span}
 use Rattle.ac_expo.specs.Steps.{step_of}
 use Rattle.ac_expo.specs.Greatest.{bin_least, step_least}
 

@@ -3,10 +3,12 @@ use Rattle.std.proofs.Common.{◌≡◌, ℕ, zero, suc, ◌+◌, ◌-◌, ◌*�
 use Rattle.std.specs.Prelude.{nat_lt, if◌then◌else◌}
 use Rattle.std.proofs.lemmas.Nat.{le-div}
 use Rattle.std.proofs.lemmas.Bool.{cases_eq, cases_lt, lt-ltb, le-ltb, eq-eqb, ne_eqb}
-use Rattle.ac_base.specs.declared.shape.Lead.{Lead}
-use Rattle.ac_base.specs.declared.shape.Lead.TheVariants.{Free, Coupled, Coupling, Low}
-use Rattle.ac_base.specs.declared.shape.Span.{Span}
-use Rattle.ac_expo.specs.Spans.{IsIn, IsSpan, IsKind, IsRange, is_coupling}
+use Rattle.ac_base.specs.declared.spans.Lead.{Lead}
+use Rattle.ac_base.specs.declared.spans.Lead.TheVariants.{Free, Coupled, Coupling, Low}
+use Rattle.ac_base.specs.declared.spans.Span.{Span}
+use Rattle.ac_expo.specs.Spans.{IsIn, IsKind, is_coupling}
+use Rattle.ac_base.specs.Shape.{IsSpan}
+use Rattle.ac_expo.proofs.Walk.{range, IsRange}
 use Rattle.ac_expo.specs.Steps.{width, ahead, step_of, bin_of, groups_of, last_step}
 use Rattle.ac_expo.specs.Greatest.{IsSpellable}
 use Rattle.ac_expo.specs.Groups.{first_of, reference, past, at_step}
@@ -79,7 +81,7 @@ pub placed : (kind : ℕ) (span : Span) (exps : List ℕ) → IsSpan span → Is
 placed kind span exps is_span is_kind can =
     record {
       one = span_kind span.lead kind is_kind.0 is_kind.1;
-      some = (start_before_end span.lead span.start span.end is_span).0;
+      some = (start_before_end span.lead span.start span.end (range span is_span)).0;
       walk = (walk kind span is_span is_kind).0;
       can = can;
     }
@@ -202,10 +204,10 @@ near_first kind span exps is_span p =
           (omega arith, omega arith)
       | inr free ↦
           let e = b.1 free in
-          let l = wide span.lead span.start span.end is_span free in
+          let l = wide span.lead span.start span.end (range span is_span) free in
           let a1 = at_bin kind span exps 1 (omega arith) (omega arith) in
           let a0 = a.1 free in
-          let o = origin span.lead span.start span.end kind is_span p.one free in
+          let o = origin span.lead span.start span.end kind (range span is_span) p.one free in
           let at = step_of_bin kind span 1 p.one (omega arith) in
           let n = p.can.near 0 (bin_of kind span 1) (omega arith, omega arith) (omega arith, omega arith) (omega arith) in
           (omega arith, omega arith)

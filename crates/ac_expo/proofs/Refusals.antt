@@ -2,14 +2,15 @@
 use Rattle.std.proofs.Common.{◌≡◌, ℕ, zero, suc, ◌+◌, ◌-◌, ◌*◌, ◌/◌, ◌%◌, ◌<◌, ◌≤◌, ◌⊎◌, Bool, true, false, List, length, slice_index, inl, inr, arith, refl, ap, sym, ◌∙◌, subst}
 use Rattle.std.specs.Prelude.{if◌then◌else◌}
 use Rattle.std.proofs.lemmas.Bool.{cases_eq, cases_lt}
-use Rattle.ac_base.specs.declared.shape.Lead.{Lead}
-use Rattle.ac_base.specs.declared.shape.Span.{Span}
-use Rattle.ac_expo.specs.Spans.{IsIn, IsSpan, IsKind, is_coupling}
+use Rattle.ac_base.specs.declared.spans.Lead.{Lead}
+use Rattle.ac_base.specs.declared.spans.Span.{Span}
+use Rattle.ac_expo.specs.Spans.{IsIn, IsKind, is_coupling}
+use Rattle.ac_base.specs.Shape.{IsSpan}
 use Rattle.ac_expo.specs.Steps.{step_of, bin_of, groups_of, last_step}
 use Rattle.ac_expo.specs.Greatest.{IsSpellable}
 use Rattle.ac_expo.specs.Spelling.{Spelling}
 use Rattle.ac_expo.specs.Groups.{reference, mapped_of, sum_to, spelled_exponent, IsOutside, IsBadSum, HasBadSum, IsOfGroup, IsRefused, NoneRefused, IsExpanded}
-use Rattle.ac_expo.proofs.Walk.{IsWalk, IsOneOf, walk, origin, span_kind, start_before_end}
+use Rattle.ac_expo.proofs.Walk.{range, IsWalk, IsOneOf, walk, origin, span_kind, start_before_end}
 use Rattle.ac_expo.proofs.Places.{step_of_bin, bin_from, bin_low, step_up_to, step_some}
 use Rattle.ac_expo.proofs.Spellings.{sum_none, sum_more, mapped_zero, mapped_one, mapped_two, true_or_false}
 
@@ -20,7 +21,7 @@ IsBad kind span spelled g = (g ≤ step_of kind span (span.end - 1)) × IsOutsid
 pub bad_refused : (kind : ℕ) (span : Span) (spelled : Spelling) → IsSpan span → IsKind kind span → (place g : ℕ) → IsOfGroup place g → IsBad kind span spelled g → IsRefused kind span spelled place
 bad_refused kind span spelled is_span is_kind place g of bad =
     let one = span_kind span.lead kind is_kind.0 is_kind.1 in
-    let some = (start_before_end span.lead span.start span.end is_span).0 in
+    let some = (start_before_end span.lead span.start span.end (range span is_span)).0 in
     let k = bin_of kind span g in
     let e : g ≡ step_of kind span k = sym (step_of_bin kind span g one (omega arith)) in
     let low = bin_low kind span g (span.end - 1) one (omega arith) bad.0 in
@@ -129,7 +130,7 @@ expanded_spellable kind span spelled exps is_span is_kind count first none by =
           let s : sum_to span.lead spelled (step_of kind span k) ≡ sum_to span.lead spelled (g + 1) = ap (sum_to span.lead spelled) next in
           (omega arith, omega arith);
       first = λ free.
-          let o = origin span.lead span.start span.end kind is_span one free in
+          let o = origin span.lead span.start span.end kind (range span is_span) one free in
           let e = by 0 (omega arith, omega arith) in
           let s : sum_to span.lead spelled (step_of kind span 0) ≡ spelled.first = ap (sum_to span.lead spelled) o.2 ∙ sum_first kind span spelled first free in
           omega arith;

@@ -2,15 +2,16 @@
 use Rattle.std.proofs.Common.{◌≡◌, ℕ, zero, suc, ◌+◌, ◌-◌, ◌*◌, ◌/◌, ◌%◌, ◌<◌, ◌≤◌, ◌⊎◌, Bool, true, false, List, [], ◌∷◌, ◌++◌, length, slice_index, inl, inr, arith, refl, ap, sym, ◌∙◌, subst}
 use Rattle.std.proofs.lemmas.Bool.{cases_eq, cases_lt, eq-eqb, ne_eqb}
 use Rattle.std.proofs.lemmas.List.{get_or_append_left, get_or_push, length-append}
-use Rattle.ac_base.specs.declared.shape.Lead.{Lead}
-use Rattle.ac_base.specs.declared.shape.Span.{Span}
-use Rattle.ac_expo.specs.Spans.{IsIn, IsSpan, IsKind, is_coupling}
+use Rattle.ac_base.specs.declared.spans.Lead.{Lead}
+use Rattle.ac_base.specs.declared.spans.Span.{Span}
+use Rattle.ac_expo.specs.Spans.{IsIn, IsKind, is_coupling}
+use Rattle.ac_base.specs.Shape.{IsSpan}
 use Rattle.ac_expo.specs.Steps.{step_of, bin_of, groups_of, last_step}
 use Rattle.ac_expo.specs.Greatest.{IsSpellable}
 use Rattle.ac_expo.specs.Spelling.{Spelling}
 use Rattle.ac_expo.specs.Groups.{first_of, reference, at_step, mapped, group_of, groups_below, spelled_of, mapped_of, sum_to, spelled_exponent, IsOutside, IsOfGroup, IsRefused, NoneRefused, IsExpanded, ExpandUndoesGroup}
 use Rattle.ac_expo.proofs.Places.{IsPlaced, placed, near_steps, at_small, at_first, at_first_is, at_step_of, step_some}
-use Rattle.ac_expo.proofs.Walk.{origin}
+use Rattle.ac_expo.proofs.Walk.{range, origin}
 
 -- ---- the list of groups
 pub groups_none : (kind : ℕ) (span : Span) (exps : List ℕ) → groups_below kind span exps 0 ≡ []
@@ -126,7 +127,7 @@ back kind span exps is_span is_kind can =
           | inl z ↦ elim (true_or_false (is_coupling span.lead)) [
               | inl joined ↦ let some = step_some kind span k p.one joined in absurd (omega arith)
               | inr free ↦
-                  let o = origin span.lead span.start span.end kind is_span p.one free in
+                  let o = origin span.lead span.start span.end kind (range span is_span) p.one free in
                   let c = p.can.constant k 0 inside (omega arith, omega arith) (omega arith) in
                   let a = (at_first_is kind span exps).1 free in
                   let a2 : at_step kind span exps (step_of kind span k) ≡ at_step kind span exps 0 = ap (at_step kind span exps) z in

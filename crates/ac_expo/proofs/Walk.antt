@@ -1,11 +1,28 @@
 -- Steps as bins go up: each bin has the step of the bin before it, or the next step.
-use Rattle.std.proofs.Common.{◌≡◌, ℕ, zero, suc, ◌+◌, ◌-◌, ◌*◌, ◌/◌, ◌<◌, ◌≤◌, ◌⊎◌, inl, inr, arith, refl, false, ap, sym, ◌∙◌, subst}
+use Rattle.std.proofs.Common.{◌≡◌, ℕ, zero, suc, ◌+◌, ◌-◌, ◌*◌, ◌/◌, ◌%◌, ◌<◌, ◌≤◌, ◌⊎◌, inl, inr, arith, refl, false, ap, sym, ◌∙◌, subst}
 use Rattle.std.proofs.lemmas.Bool.{cases_eq}
-use Rattle.ac_base.specs.declared.shape.Lead.{Lead}
-use Rattle.ac_base.specs.declared.shape.Lead.TheVariants.{Free, Coupled, Coupling, Low}
-use Rattle.ac_base.specs.declared.shape.Span.{Span}
-use Rattle.ac_expo.specs.Spans.{IsIn, IsSpan, IsKind, IsRange, greatest_kind, is_coupling}
+use Rattle.ac_base.specs.declared.spans.Lead.{Lead}
+use Rattle.ac_base.specs.declared.spans.Lead.TheVariants.{Free, Coupled, Coupling, Low}
+use Rattle.ac_base.specs.declared.spans.Span.{Span}
+use Rattle.ac_expo.specs.Spans.{IsIn, IsKind, greatest_kind, is_coupling}
+use Rattle.ac_base.specs.Shape.{IsSpan, IsSpanOf}
 use Rattle.ac_expo.specs.Steps.{width, ahead, step_of, bin_of, groups_of, last_step}
+
+-- the ends of spans, by remainders
+abbrev pub IsRange : Lead → ℕ → ℕ → Type 0
+IsRange Free start end = (start ≡ 0) × (73 ≤ end) × (end ≤ 253) × (end % 3 ≡ 1)
+IsRange Coupled start end = (start ≡ 0) × (37 ≤ end) × (end ≤ 217) × (end % 12 ≡ 1)
+IsRange Coupling start end = (37 ≤ start) × (start < end) × (end ≤ 253) × (start % 12 ≡ 1) × (end % 12 ≡ 1)
+IsRange Low start end = (start ≡ 0) × (end ≡ 7)
+
+range_of : (lead : Lead) (start end : ℕ) → IsSpanOf lead start end → IsRange lead start end
+range_of Free start end s = (omega arith, omega arith, omega arith, omega arith)
+range_of Coupled start end s = (omega arith, omega arith, omega arith, omega arith)
+range_of Coupling start end s = (omega arith, omega arith, omega arith, omega arith, omega arith)
+range_of Low start end s = s
+
+pub range : (span : Span) → IsSpan span → IsRange span.lead span.start span.end
+range span s = range_of span.lead span.start span.end s
 
 pub record IsWalk (at : ℕ → ℕ) (start end last : ℕ) : Type 0 where
   pub first : at start ≤ 1
@@ -97,7 +114,8 @@ start_before_end Coupling start end range = (omega arith, omega arith)
 start_before_end Low start end range = (omega arith, omega arith)
 
 pub walk : (kind : ℕ) (span : Span) → IsSpan span → IsKind kind span → IsWalk (step_of kind span) span.start span.end (last_step kind span) × (last_step kind span ≤ 252)
-walk kind span range kinds =
+walk kind span is_span kinds =
+    let range = range span is_span in
     let one = span_kind span.lead kind kinds.0 kinds.1 in
     let e = ends span.lead span.start span.end kind range one kinds.1 in
     let b = start_before_end span.lead span.start span.end range in

@@ -1,8 +1,9 @@
 -- The exponents of a run: the pointwise greatest list that its kind can spell and that is at most the raw
 -- exponents of each block of the run.
 use Rattle.std.specs.Prelude.{◌≡◌, ℕ, zero, suc, ◌+◌, ◌-◌, ◌*◌, ◌<◌, ◌≤◌, ◌==◌, min, Bool, false, if◌then◌else◌, List, [], slice_index, slice_index_or}
-use Rattle.ac_base.specs.declared.shape.Span.{Span}
-use Rattle.ac_expo.specs.Spans.{IsIn, IsSpan, IsKind, is_coupling}
+use Rattle.ac_base.specs.declared.spans.Span.{Span}
+use Rattle.ac_expo.specs.Spans.{IsIn, IsKind, is_coupling}
+use Rattle.ac_base.specs.Shape.{IsSpan}
 use Rattle.ac_expo.specs.Steps.{step_of, last_step}
 use Rattle.ac_expo.specs.Least.{spread}
 

@@ -1,8 +1,9 @@
 -- The spelling of a list of exponents in groups (A/52 7.1.3).
 use Rattle.std.specs.Prelude.{◌≡◌, ℕ, zero, suc, ◌+◌, ◌-◌, ◌*◌, ◌/◌, ◌%◌, ◌<◌, ◌≤◌, ◌==◌, ◌⊎◌, min, nat_lt, if◌then◌else◌, List, [], ◌∷◌, ◌++◌, length, slice_index}
-use Rattle.ac_base.specs.declared.shape.Lead.{Lead}
-use Rattle.ac_base.specs.declared.shape.Span.{Span}
-use Rattle.ac_expo.specs.Spans.{IsIn, IsSpan, IsKind, is_coupling}
+use Rattle.ac_base.specs.declared.spans.Lead.{Lead}
+use Rattle.ac_base.specs.declared.spans.Span.{Span}
+use Rattle.ac_expo.specs.Spans.{IsIn, IsKind, is_coupling}
+use Rattle.ac_base.specs.Shape.{IsSpan}
 use Rattle.ac_expo.specs.Steps.{step_of, bin_of, groups_of}
 use Rattle.ac_expo.specs.Greatest.{IsSpellable}
 use Rattle.ac_expo.specs.Spelling.{Spelling}

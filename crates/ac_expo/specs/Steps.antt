@@ -1,7 +1,7 @@
 -- Steps and groups of exponents (A/52 7.1.2, 7.1.3).
 use Rattle.std.specs.Prelude.{ℕ, ◌+◌, ◌-◌, ◌*◌, ◌/◌, ◌==◌, if◌then◌else◌}
-use Rattle.ac_base.specs.declared.shape.Lead.{Lead}
-use Rattle.ac_base.specs.declared.shape.Span.{Span}
+use Rattle.ac_base.specs.declared.spans.Lead.{Lead}
+use Rattle.ac_base.specs.declared.spans.Span.{Span}
 use Rattle.ac_expo.specs.Spans.{is_coupling}
 
 -- the bins that a difference covers

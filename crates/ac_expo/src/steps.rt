@@ -1,6 +1,7 @@
 //! Steps and groups of exponents.
 ghost use Rattle.std.specs.Prelude.{◌≡◌, ℕ, ◌+◌, ◌-◌, ◌*◌, ◌<◌, ◌≤◌};
-ghost use Rattle.ac_expo.specs.Spans.{IsIn, IsSpan, IsKind, is_coupling};
+ghost use Rattle.ac_expo.specs.Spans.{IsIn, IsKind, is_coupling};
+ghost use Rattle.ac_base.specs.Shape.{IsSpan};
 ghost use Rattle.ac_expo.specs.Steps.{width, ahead, step_of, bin_of, groups_of, last_step};
 
 use ac_base::{Lead, Span};

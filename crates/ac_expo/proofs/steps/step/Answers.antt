@@ -1,12 +1,12 @@
 use Rattle.std.proofs.Common.{◌≡◌, ◌≤◌, arith}
 use Rattle.ac_expo.specs.Steps.{step_of, last_step}
-use Rattle.ac_expo.proofs.Walk.{walk, start_before_end}
+use Rattle.ac_expo.proofs.Walk.{range, walk, start_before_end}
 use Rattle.ac_expo.proofs.steps.step.Goals as goal
 
 pub quotient-requires : goal.quotient-requires
 quotient-requires c =
     let s = c.args.span.now in
-    let b = start_before_end s.lead s.start s.end c.requires.span in
+    let b = start_before_end s.lead s.start s.end (range s c.requires.span) in
     record { kind = c.requires.kind; within = c.requires.within; end = b.1 }
 
 pub returns : goal.returns
