@@ -2,7 +2,8 @@ pub mod Zeros
 pub mod Walk
 pub mod Spread
 pub mod Minima
-pub mod Laws
+pub mod Formula
+pub mod Numbers
 pub mod Kept
 pub mod Places
 pub mod Spellings

@@ -67,3 +67,7 @@ FormulaIsGreatest =
 abbrev pub GreatestIsOne : Type 0
 GreatestIsOne =
     (kind : ℕ) (span : Span) (raw : List (List ℕ)) (from to : ℕ) (exps others : List ℕ) → IsGreatest kind span raw from to exps → IsGreatest kind span raw from to others → (k : ℕ) → IsIn span k → slice_index exps k ≡ slice_index others k
+
+abbrev pub GreatestExists : Type 0
+GreatestExists =
+    (kind : ℕ) (span : Span) (raw : List (List ℕ)) (from to : ℕ) → IsSpan span → IsKind kind span → (exps : List ℕ) × IsGreatest kind span raw from to exps

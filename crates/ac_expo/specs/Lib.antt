@@ -1,7 +1,8 @@
+pub mod Greatest
+pub mod Groups
+pub mod Least
 pub mod Raw
 pub mod Spans
-pub mod Steps
-pub mod Least
-pub mod Greatest
 pub mod Spelling
-pub mod Groups
+pub mod Steps
+pub mod Words

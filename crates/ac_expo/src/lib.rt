@@ -4,17 +4,21 @@
 
 mod expanding;
 mod grouping;
+mod laws;
 mod lists;
 mod raw;
 mod run;
 mod smooth;
 mod spelled;
 mod steps;
+mod word;
 
 pub use expanding::{BadExponent, expand};
 pub use grouping::group;
+pub use laws::{exponent_laws, word_laws};
 pub use lists::greatest;
 pub use raw::raw_exponent;
-pub use run::Run;
+pub use run::{Run, runs};
 pub use spelled::Spelled;
 pub use steps::groups;
+pub use word::{Assign, Word, word_at};

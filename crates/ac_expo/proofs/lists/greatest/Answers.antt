@@ -4,7 +4,7 @@ use Rattle.std.proofs.lemmas.List.{get_or-take, get_or_past, length-take-le, get
 use Rattle.ac_expo.specs.Steps.{step_of, last_step}
 use Rattle.ac_expo.specs.Least.{spread}
 use Rattle.ac_expo.proofs.Walk.{walk}
-use Rattle.ac_expo.proofs.Laws.{formula, composed}
+use Rattle.ac_expo.proofs.Formula.{formula, composed}
 use Rattle.ac_expo.proofs.Minima.{small_take}
 use Rattle.ac_expo.proofs.lists.greatest.Goals as goal
 

@@ -6,12 +6,14 @@ use Rattle.ac_expo.specs.Spans.{IsIn, IsKind, is_coupling}
 use Rattle.ac_base.specs.Shape.{IsSpan}
 use Rattle.ac_expo.specs.Steps.{step_of, last_step}
 use Rattle.ac_expo.specs.Least.{distance, least, spread}
-use Rattle.ac_expo.specs.Greatest.{IsSpellable, IsUnder, IsGreatest, IsByFormula, FormulaIsGreatest, GreatestIsOne, bin_least, step_least, raw_least, capped, step_exponent, exponent_of}
+use Rattle.ac_expo.specs.Greatest.{IsSpellable, IsUnder, IsGreatest, IsByFormula, FormulaIsGreatest, GreatestIsOne, GreatestExists, bin_least, step_least, raw_least, capped, step_exponent, exponent_of}
 use Rattle.ac_expo.proofs.Walk.{range, IsWalk, walk, rises, origin, span_kind}
 use Rattle.ac_expo.proofs.Spread.{least_le, least_ge, least_same, near_up, near_down, spread_within}
 use Rattle.ac_expo.proofs.Minima.{bin_le, bin_ge, bin_small, step_le, step_ge, step_small, step_least-same}
 use Rattle.std.proofs.lemmas.List.{get_or-take}
-use Rattle.std.proofs.Common.{take}
+use Rattle.std.proofs.Common.{take, map}
+use Rattle.std.specs.List.{range_with_len}
+use Rattle.std.proofs.lemmas.List.FromFn.{get_or-map-range_with_len}
 
 -- ---- a list that can be spelled changes by at most 2 a step
 one_bin : (kind : ℕ) (span : Span) (t : List ℕ) (last : ℕ) → IsWalk (step_of kind span) span.start span.end last → IsSpellable kind span t → (k : ℕ) → span.start ≤ k → k + 1 < span.end → (slice_index t (k + 1) ≤ slice_index t k + 2 * (step_of kind span (k + 1) - step_of kind span k)) × (slice_index t k ≤ slice_index t (k + 1) + 2 * (step_of kind span (k + 1) - step_of kind span k))
@@ -146,6 +148,11 @@ one kind span raw from to exps others a b k inside =
     let l = b.most exps k a.spellable a.under inside in
     let m = a.most others k b.spellable b.under inside in
     omega arith
+
+pub exists : GreatestExists
+exists kind span raw from to is_span is_kind =
+    let exps = map (exponent_of kind span raw from to) (range_with_len 0 span.end) in
+    (exps, formula kind span raw from to exps is_span is_kind (λ k inside. get_or-map-range_with_len (exponent_of kind span raw from to) 0 span.end k k 0 inside.1 (omega arith)))
 
 -- ---- the cap at step 0 is the cap at each step
 capped_least : (last : ℕ) (r s : ℕ → ℕ) (g : ℕ) → s 0 ≡ min (r 0) 15 → ((h : ℕ) → 0 < h → s h ≡ r h) → spread last s g ≡ min (spread last r g) (15 + 2 * g)
