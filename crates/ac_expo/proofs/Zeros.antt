@@ -4,7 +4,8 @@ use Rattle.std.specs.Int.Count.{count_leading_zeros}
 use Rattle.std.proofs.lemmas.Nat.{leading_length, pow_pos, pow-add, mul-le}
 use Rattle.std.specs.Prelude.{nat_lt}
 use Rattle.std.proofs.lemmas.Bool.{cases_lt, cases_eq, lt-ltb, le-ltb}
-use Rattle.ac_expo.specs.Raw.{raw_below}
+use Rattle.std.proofs.Common.{unsigned_abs, ℤ}
+use Rattle.ac_expo.specs.Raw.{raw_below, raw_of, IsRaw, RawIsGreatest}
 use Rattle.std.proofs.Math.Nat.{pow-le-pow_right}
 
 pub few_digits : (a : ℕ) → a < 2 ^ 24 → 8 ≤ count_leading_zeros 32 a
@@ -65,3 +66,12 @@ most a e above d l fits =
 
 pub at_most_all : (a : ℕ) → a < 2 ^ 24 → count_leading_zeros 32 a - 8 ≤ 24
 at_most_all a small = let l = leading_length 32 a (omega arith) in omega arith
+
+pub raw_greatest : RawIsGreatest
+raw_greatest c small =
+    let a = unsigned_abs c in
+    let e = count_leading_zeros 32 a - 8 in
+    let r = raw_is_greatest a small in
+    let same : raw_of c ≡ e = found 24 a e (at_most_all a small) r.0 r.1 in
+    let P : ℕ → Type 0 = IsRaw c in
+    subst P (sym same) (record { bound = at_most_all a small; fits = r.0; greatest = λ d l fits. most a e r.1 d l fits })

@@ -1,10 +1,12 @@
 //! Laws of the definitions that the contracts cite.
 ghost use Rattle.ac_expo.specs.Greatest.{FormulaIsGreatest, GreatestIsOne, GreatestExists};
 ghost use Rattle.ac_expo.specs.Groups.{ExpandUndoesGroup};
+ghost use Rattle.ac_expo.specs.Raw.{RawIsGreatest};
 ghost use Rattle.ac_expo.specs.Words.{EachNumberIsOneWord, EachWordHasANumber};
 
-/// The exponents of a run exist, they are one list, and the formula gives it; its groups give it back.
+/// A raw exponent is the greatest e. The exponents of a run exist, they are one list, and the formula gives it; its groups give it back.
 pub fn exponent_laws()
+    ensures raw { RawIsGreatest }
     ensures formula { FormulaIsGreatest }
     ensures exists { GreatestExists }
     ensures one { GreatestIsOne }
