@@ -70,9 +70,10 @@ pub exponent_near : (kind : ℕ) (span : Span) (raw : List (List ℕ)) (from to 
 unfolding step_exponent
 exponent_near kind span raw from to g =
     let last = last_step kind span in
-    let r = raw_least kind span raw from to in
-    (capped_near (is_coupling span.lead) g (spread last r (g + 1)) (spread last r g) (near_up last r g),
-     capped_back (is_coupling span.lead) g (spread last r g) (spread last r (g + 1)) (near_down last r g))
+    let r = raw_least kind span raw from to in (
+      capped_near (is_coupling span.lead) g (spread last r (g + 1)) (spread last r g) (near_up last r g),
+      capped_back (is_coupling span.lead) g (spread last r g) (spread last r (g + 1)) (near_down last r g),
+    )
 
 pub exponent_le : (kind : ℕ) (span : Span) (raw : List (List ℕ)) (from to g : ℕ) → g ≤ last_step kind span → step_exponent kind span raw from to g ≤ raw_least kind span raw from to g
 unfolding step_exponent
@@ -116,11 +117,11 @@ above_none kind span raw from to t last w s under k h in_k =
     let x = slice_index t k - 2 * d in
     let small = s.small k in_k in
     let least_ = step_ge kind span f (span.end - span.start) h x (omega arith) (λ i l at.
-        let j = span.start + i in
-        let in_j : IsIn span j = (omega arith, omega arith) in
-        let a = bins_apart kind span t last w s j k in_j in_k in
-        let same : distance (step_of kind span k) (step_of kind span j) ≡ d = ap (λ n. distance (step_of kind span k) n) at in
-        bin_ge raw from (to - from) j x (omega arith) (λ b m. let u = under (from + b) j (omega arith) (omega arith) in_j in omega arith)) in
+    let j = span.start + i in
+    let in_j : IsIn span j = (omega arith, omega arith) in
+    let a = bins_apart kind span t last w s j k in_j in_k in
+    let same : distance (step_of kind span k) (step_of kind span j) ≡ d = ap (λ n. distance (step_of kind span k) n) at in
+    bin_ge raw from (to - from) j x (omega arith) (λ b m. let u = under (from + b) j (omega arith) (omega arith) in_j in omega arith)) in
     omega arith
 
 pub formula : FormulaIsGreatest
@@ -176,7 +177,7 @@ composed kind span raw from to count bins steps caps smoothed e few of_bins of_s
     let c = is_coupling span.lead in
     let r = raw_least kind span raw from to in
     let taken : spread (count - 1) (slice_index (take count caps)) g ≡ spread last (slice_index caps) g =
-      ap (λ n. spread n (slice_index (take count caps)) g) less ∙ spread-same last (slice_index (take count caps)) (slice_index caps) g (λ h l. get_or-take count caps h 0 (omega arith)) in
+    ap (λ n. spread n (slice_index (take count caps)) g) less ∙ spread-same last (slice_index (take count caps)) (slice_index caps) g (λ h l. get_or-take count caps h 0 (omega arith)) in
     let by_raw : spread last (slice_index steps) g ≡ spread last r g =
-      spread-same last (slice_index steps) r g (λ h l. of_steps h (omega arith) ∙ step_least-same kind span (slice_index bins) (bin_least raw from (to - from)) (span.end - span.start) h (λ i m. of_bins (span.start + i) (omega arith, omega arith))) in
+    spread-same last (slice_index steps) r g (λ h l. of_steps h (omega arith) ∙ step_least-same kind span (slice_index bins) (bin_least raw from (to - from)) (span.end - span.start) h (λ i m. of_bins (span.start + i) (omega arith, omega arith))) in
     smooth ∙ taken ∙ spread-capped c last (slice_index steps) (slice_index caps) g first others ∙ ap (capped c g) by_raw

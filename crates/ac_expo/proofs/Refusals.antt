@@ -42,9 +42,9 @@ refused_bad kind span spelled is_span is_kind place refused =
           inr (elim (cases_eq g (3 * place + 1)) [
             | inl e ↦ inl (subst B e here)
             | inr ne ↦ inr (elim (cases_eq g (3 * place + 2)) [
-                | inl e ↦ inl (subst B e here)
-                | inr ne2 ↦ let e : g ≡ 3 * place + 3 = omega arith in inr (subst B e here)
-              ])
+              | inl e ↦ inl (subst B e here)
+              | inr ne2 ↦ let e : g ≡ 3 * place + 3 = omega arith in inr (subst B e here)
+            ])
           ])
     ]
 
@@ -58,18 +58,19 @@ from_sum kind span spelled sums last g e same bad = (omega arith, elim bad.1 [ i
 pub by_sums : (kind : ℕ) (span : Span) (spelled : Spelling) (sums : List ℕ) (last place : ℕ) → IsSpan span → IsKind kind span → last ≡ step_of kind span (span.end - 1) → length spelled.groups ≡ groups_of kind span → place < length spelled.groups → ((g : ℕ) → g ≤ 3 * length spelled.groups → slice_index sums g ≡ sum_to span.lead spelled g) → slice_index spelled.groups place ≤ 124 → (HasBadSum sums last (3 * place) → IsRefused kind span spelled place) × (IsRefused kind span spelled place → HasBadSum sums last (3 * place))
 by_sums kind span spelled sums last place is_span is_kind e count within same small =
     let to_ = λ (g : ℕ) (of : IsOfGroup place g) (b : IsBadSum sums last g). bad_refused kind span spelled is_span is_kind place g of (from_sum kind span spelled sums last g e (same g (omega arith)) b) in
-    let back_ = λ (g : ℕ) (of : IsOfGroup place g) (b : IsBad kind span spelled g). to_sum kind span spelled sums last g e (same g (omega arith)) b in
-    ((λ has. elim has [
+    let back_ = λ (g : ℕ) (of : IsOfGroup place g) (b : IsBad kind span spelled g). to_sum kind span spelled sums last g e (same g (omega arith)) b in (
+      (λ has. elim has [
         | inl b ↦ to_ (3 * place + 1) (omega arith, omega arith) b
         | inr more ↦ elim more [ inl b ↦ to_ (3 * place + 2) (omega arith, omega arith) b | inr b ↦ to_ (3 * place + 3) (omega arith, omega arith) b ]
       ]),
-     (λ refused. elim (refused_bad kind span spelled is_span is_kind place refused) [
+      (λ refused. elim (refused_bad kind span spelled is_span is_kind place refused) [
         | inl over ↦ absurd (omega arith)
         | inr bad ↦ elim bad [
-            | inl b ↦ inl (back_ (3 * place + 1) (omega arith, omega arith) b)
-            | inr more ↦ inr (elim more [ inl b ↦ inl (back_ (3 * place + 2) (omega arith, omega arith) b) | inr b ↦ inr (back_ (3 * place + 3) (omega arith, omega arith) b) ])
-          ]
-      ]))
+          | inl b ↦ inl (back_ (3 * place + 1) (omega arith, omega arith) b)
+          | inr more ↦ inr (elim more [ inl b ↦ inl (back_ (3 * place + 2) (omega arith, omega arith) b) | inr b ↦ inr (back_ (3 * place + 3) (omega arith, omega arith) b) ])
+        ]
+      ]),
+    )
 
 -- ---- a spelling in which no group is refused
 free_reference : (c : Bool) (a : ℕ) → c ≡ false → (if c then 2 * a else a) ≡ a
@@ -87,9 +88,9 @@ within_all kind span spelled is_span is_kind count first none k inside =
     let at = w.within k inside.0 inside.1 in
     elim (cases_eq g 0) [
       | inl z ↦ elim (true_or_false (is_coupling span.lead)) [
-          | inl joined ↦ let some = step_some kind span k one joined in absurd (omega arith)
-          | inr free ↦ let e : sum_to span.lead spelled g ≡ spelled.first = ap (sum_to span.lead spelled) z ∙ sum_first kind span spelled first free in (omega arith, omega arith)
-        ]
+        | inl joined ↦ let some = step_some kind span k one joined in absurd (omega arith)
+        | inr free ↦ let e : sum_to span.lead spelled g ≡ spelled.first = ap (sum_to span.lead spelled) z ∙ sum_first kind span spelled first free in (omega arith, omega arith)
+      ]
       | inr ne ↦
           let place = (g - 1) / 3 in
           let no_ = none place (omega arith) in
@@ -104,9 +105,9 @@ mapped_least groups i small =
     elim (cases_eq (i % 3) 0) [
       | inl e ↦ let m = mapped_zero groups i e in omega arith
       | inr ne ↦ elim (cases_eq (i % 3) 1) [
-          | inl e ↦ let m = mapped_one groups i e in omega arith
-          | inr ne1 ↦ let m = mapped_two groups i (omega arith) in omega arith
-        ]
+        | inl e ↦ let m = mapped_one groups i e in omega arith
+        | inr ne1 ↦ let m = mapped_two groups i (omega arith) in omega arith
+      ]
     ]
 
 pub expanded_spellable : (kind : ℕ) (span : Span) (spelled : Spelling) (exps : List ℕ) → IsSpan span → IsKind kind span → length spelled.groups ≡ groups_of kind span → spelled.first ≤ 15 → NoneRefused kind span spelled → IsExpanded kind span spelled exps → IsSpellable kind span exps

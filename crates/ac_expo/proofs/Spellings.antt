@@ -74,9 +74,9 @@ mapped_back kind span exps is_span p n i l =
     elim (cases_eq (i % 3) 0) [
       | inl e ↦ let same : 3 * j ≡ i = omega arith in mapped_zero groups i e ∙ ap (λ g. g / 25) at ∙ u.0 ∙ ap M same
       | inr ne ↦ elim (cases_eq (i % 3) 1) [
-          | inl e ↦ let same : 3 * j + 1 ≡ i = omega arith in mapped_one groups i e ∙ ap (λ g. g / 5 % 5) at ∙ u.1 ∙ ap M same
-          | inr ne1 ↦ let same : 3 * j + 2 ≡ i = omega arith in mapped_two groups i (omega arith) ∙ ap (λ g. g % 5) at ∙ u.2 ∙ ap M same
-        ]
+        | inl e ↦ let same : 3 * j + 1 ≡ i = omega arith in mapped_one groups i e ∙ ap (λ g. g / 5 % 5) at ∙ u.1 ∙ ap M same
+        | inr ne1 ↦ let same : 3 * j + 2 ≡ i = omega arith in mapped_two groups i (omega arith) ∙ ap (λ g. g % 5) at ∙ u.2 ∙ ap M same
+      ]
     ]
 
 -- ---- the sums
@@ -108,23 +108,23 @@ back kind span exps is_span is_kind can =
     let p = placed kind span exps is_span is_kind can in
     let s = spelled_of kind span exps in
     let n = groups_of kind span in
-    let long = groups_long kind span exps n in
-    ((λ place within refused.
-        elim refused [
-          | inl over ↦ let e = group_at kind span exps n place (omega arith) in let small = group_small kind span exps is_span p place in absurd (omega arith)
-          | inr bad ↦
-              let k = bad.0 in
-              let at = p.walk.within k bad.1.0.0 bad.1.0.1 in
-              let e = sum_back kind span exps is_span p (step_of kind span k) at in
-              let small = at_small kind span exps is_span p (step_of kind span k) in
-              elim bad.1.2 [ inl low ↦ absurd (omega arith) | inr high ↦ absurd (omega arith) ]
-        ]),
-     (λ k inside.
-        let at = p.walk.within k inside.0 inside.1 in
-        let e = sum_back kind span exps is_span p (step_of kind span k) at in
-        elim (cases_eq (step_of kind span k) 0) [
-          | inr ne ↦ let a = at_step_of kind span exps p k inside (omega arith) in omega arith
-          | inl z ↦ elim (true_or_false (is_coupling span.lead)) [
+    let long = groups_long kind span exps n in (
+      (λ place within refused.
+          elim refused [
+            | inl over ↦ let e = group_at kind span exps n place (omega arith) in let small = group_small kind span exps is_span p place in absurd (omega arith)
+            | inr bad ↦
+                let k = bad.0 in
+                let at = p.walk.within k bad.1.0.0 bad.1.0.1 in
+                let e = sum_back kind span exps is_span p (step_of kind span k) at in
+                let small = at_small kind span exps is_span p (step_of kind span k) in
+                elim bad.1.2 [ inl low ↦ absurd (omega arith) | inr high ↦ absurd (omega arith) ]
+          ]),
+      (λ k inside.
+          let at = p.walk.within k inside.0 inside.1 in
+          let e = sum_back kind span exps is_span p (step_of kind span k) at in
+          elim (cases_eq (step_of kind span k) 0) [
+            | inr ne ↦ let a = at_step_of kind span exps p k inside (omega arith) in omega arith
+            | inl z ↦ elim (true_or_false (is_coupling span.lead)) [
               | inl joined ↦ let some = step_some kind span k p.one joined in absurd (omega arith)
               | inr free ↦
                   let o = origin span.lead span.start span.end kind (range span is_span) p.one free in
@@ -133,4 +133,5 @@ back kind span exps is_span is_kind can =
                   let a2 : at_step kind span exps (step_of kind span k) ≡ at_step kind span exps 0 = ap (at_step kind span exps) z in
                   omega arith
             ]
-        ]))
+          ]),
+    )

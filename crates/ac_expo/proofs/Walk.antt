@@ -119,18 +119,20 @@ walk kind span is_span kinds =
     let one = span_kind span.lead kind kinds.0 kinds.1 in
     let e = ends span.lead span.start span.end kind range one kinds.1 in
     let b = start_before_end span.lead span.start span.end range in
-    let up : (k : ℕ) → span.start ≤ k → step_of kind span k ≤ step_of kind span (k + 1) = λ k from. (next_step kind span one k from).0 in
-    (record {
-      first = e.0;
-      up = up;
-      more = λ k from. (next_step kind span one k from).1;
-      within = λ k from below.
-          let q : k + (span.end - 1 - k) ≡ span.end - 1 = omega arith in
-          let P : ℕ → Type 0 = λ n. step_of kind span k ≤ step_of kind span n in
-          let r = subst P q (rises (step_of kind span) span.start up k (span.end - 1 - k) from) in
-          omega arith;
-      whole = e.2;
-    }, e.3)
+    let up : (k : ℕ) → span.start ≤ k → step_of kind span k ≤ step_of kind span (k + 1) = λ k from. (next_step kind span one k from).0 in (
+      record {
+        first = e.0;
+        up = up;
+        more = λ k from. (next_step kind span one k from).1;
+        within = λ k from below.
+            let q : k + (span.end - 1 - k) ≡ span.end - 1 = omega arith in
+            let P : ℕ → Type 0 = λ n. step_of kind span k ≤ step_of kind span n in
+            let r = subst P q (rises (step_of kind span) span.start up k (span.end - 1 - k) from) in
+            omega arith;
+        whole = e.2;
+      },
+      e.3,
+    )
 
 -- all but the coupling channel begin at bin 0, which is step 0
 pub origin : (lead : Lead) (start end kind : ℕ) → IsRange lead start end → IsOneOf kind → is_coupling lead ≡ false → (start ≡ 0) × (start < end) × (step_of kind (record { start = start; end = end; lead = lead }) 0 ≡ 0)

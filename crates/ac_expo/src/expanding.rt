@@ -116,7 +116,12 @@ fn write(sums: &[u16; 256], kind: u8, span: &Span, out: &mut [u8; 256])
 
 /// The exponents of a spelling, in the bins of the span (A/52 7.1.3). Refused is the first group that is over 124 or that
 /// gives an exponent outside 0 to 24 at a bin below the end; then `out` stays as it was.
-pub fn expand(kind: u8, span: &Span, spelled: &Spelled, out: &mut [u8; 256]) -> Result<(), BadExponent>
+pub fn expand(
+    kind: u8,
+    span: &Span,
+    spelled: &Spelled,
+    out: &mut [u8; 256],
+) -> Result<(), BadExponent>
     requires kind { IsKind kind span.now }
     requires span { IsSpan span.now }
     requires count { length spelled.now.groups ≡ groups_of kind span.now }
@@ -137,3 +142,6 @@ pub fn expand(kind: u8, span: &Span, spelled: &Spelled, out: &mut [u8; 256]) -> 
         }
     }
 }
+
+#[cfg(test)]
+mod tests;

@@ -11,12 +11,10 @@ pub fn exponent_laws()
     ensures exists { GreatestExists }
     ensures one { GreatestIsOne }
     ensures back { ExpandUndoesGroup }
-{
-}
+{}
 
 /// The numbers 0 to 3071 and the words are as many.
 pub fn word_laws()
     ensures one { EachNumberIsOneWord }
     ensures each { EachWordHasANumber }
-{
-}
+{}

@@ -92,3 +92,6 @@ pub fn greatest(raw: &[[u8; 256]; 6], run: &Run, span: &Span, out: &mut [u8; 256
     smooth(&mut steps[..count]);
     spread_out(&steps, run.kind, span, out);
 }
+
+#[cfg(test)]
+mod tests;

@@ -12,3 +12,6 @@ pub fn raw_exponent(c: i32) -> u8
 {
     (c.unsigned_abs().leading_zeros() - 8) as u8
 }
+
+#[cfg(test)]
+mod tests;

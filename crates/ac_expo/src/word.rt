@@ -78,3 +78,6 @@ pub fn word_at(i: u16) -> Word
 pub struct Assign {
     pub w: [Word; 7],
 }
+
+#[cfg(test)]
+mod tests;

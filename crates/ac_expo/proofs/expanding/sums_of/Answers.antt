@@ -10,10 +10,11 @@ pub loop-i-init : goal.loop-i-init
 loop-i-init c =
     let lead = c.args.lead in
     let s = c.args.spelled.now in
-    let e : c.from.result ≡ sum_to lead s 0 = c.from.ensures ∙ c.before-2.ensures.value ∙ ap (reference lead) c.first.ensures ∙ sym (sum_none lead s) in
-    (length-replicate {A = ℕ} 256 0,
-     (λ g none. let z : g ≡ 0 = omega arith in let P : ℕ → Type 0 = λ x. slice_index (set (replicate {A = ℕ} 256 0) 0 c.from.result) x ≡ sum_to lead s x in subst P (sym z) e),
-     omega (arith, c.from.ensures, c.before-2.ensures.bound))
+    let e : c.from.result ≡ sum_to lead s 0 = c.from.ensures ∙ c.before-2.ensures.value ∙ ap (reference lead) c.first.ensures ∙ sym (sum_none lead s) in (
+      length-replicate {A = ℕ} 256 0,
+      (λ g none. let z : g ≡ 0 = omega arith in let P : ℕ → Type 0 = λ x. slice_index (set (replicate {A = ℕ} 256 0) 0 c.from.result) x ≡ sum_to lead s x in subst P (sym z) e),
+      omega (arith, c.from.ensures, c.before-2.ensures.bound),
+    )
 
 pub loop-i-preserved : goal.loop-i-preserved
 loop-i-preserved c =
@@ -26,10 +27,11 @@ loop-i-preserved c =
     let room : i + 1 < length sums = omega (arith, c.len.ensures.bound, c.from-i-end.ensures, c.loop-i-test.true, c.loop-i.invariant.0) in
     let same = get_or-set_same sums (i + 1) v 0 room in
     let more = sum_more lead s i in
-    let old = c.loop-i.invariant.1 i (omega arith) in
-    (length-set sums (i + 1) v ∙ c.loop-i.invariant.0,
-     (λ g up. elim (cases_eq g (i + 1)) [
+    let old = c.loop-i.invariant.1 i (omega arith) in (
+      length-set sums (i + 1) v ∙ c.loop-i.invariant.0,
+      (λ g up. elim (cases_eq g (i + 1)) [
         | inl e ↦ ap (slice_index (set sums (i + 1) v)) e ∙ same ∙ (let t : v ≡ sum_to lead s (i + 1) = omega arith in t) ∙ ap (sum_to lead s) (sym e)
         | inr ne ↦ get_or-set_other sums (i + 1) g v 0 ne ∙ c.loop-i.invariant.1 g (omega arith)
-     ]),
-     omega (arith, same, c.mapped.ensures.bound, c.from-in-loop-i.ensures, c.loop-i.invariant.2))
+      ]),
+      omega (arith, same, c.mapped.ensures.bound, c.from-in-loop-i.ensures, c.loop-i.invariant.2),
+    )

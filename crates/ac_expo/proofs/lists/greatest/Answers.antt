@@ -24,7 +24,7 @@ returns-clause-formula c = λ k inside.
     let room : count ≤ 256 = omega (arith, w.1) in
     let long : length (take count caps) ≡ count = length-take-le count caps (omega arith) in
     let smooth : slice_index c.smooth.new.steps g ≡ spread (count - 1) (slice_index (take count caps)) g =
-      c.smooth.ensures g (omega arith) ∙ ap (λ n. spread (n - 1) (slice_index (take count caps)) g) long in
+    c.smooth.ensures g (omega arith) ∙ ap (λ n. spread (n - 1) (slice_index (take count caps)) g) long in
     let left = get_or_append_left c.smooth.new.steps (drop count caps) 0 g (omega (arith, c.smooth.auto.steps)) in
     c.spread_out.ensures.inside k inside ∙ left
     ∙ composed run.kind span c.args.raw.now run.from run.to count c.least_of_blocks-bins.result c.least_of_steps-steps.result caps c.smooth.new.steps whole room c.least_of_blocks-bins.ensures c.least_of_steps-steps.ensures.value c.cap.ensures.first c.cap.ensures.others g smooth

@@ -23,7 +23,8 @@ loop-k-preserved c =
     let value : c.min.result ≡ min (slice_index steps c.step-at.result) (f k) = grind (arith, common_steps) in
     let small : c.min.result ≤ 24 = omega (arith, value, c.loop-k.invariant.2 c.step-at.result) in
     let P : ℕ → Type 0 = λ x. (g : ℕ) → g < 256 → slice_index (set steps x c.min.result) g ≡ step_least kind span f (k + 1 - span.start) g in
-    let value_at : c.min.result ≡ min (slice_index steps at) (f k) = value ∙ ap (λ x. min (slice_index steps x) (f k)) e in
-    (length-set steps c.step-at.result c.min.result ∙ c.loop-k.invariant.0,
-     subst P (sym e) (lowered kind span f k c.min.result steps (omega arith) (omega arith) (omega (arith, c.step-at.ensures.small)) value_at c.loop-k.invariant.1),
-     small_set steps c.step-at.result c.min.result room small c.loop-k.invariant.2)
+    let value_at : c.min.result ≡ min (slice_index steps at) (f k) = value ∙ ap (λ x. min (slice_index steps x) (f k)) e in (
+      length-set steps c.step-at.result c.min.result ∙ c.loop-k.invariant.0,
+      subst P (sym e) (lowered kind span f k c.min.result steps (omega arith) (omega arith) (omega (arith, c.step-at.ensures.small)) value_at c.loop-k.invariant.1),
+      small_set steps c.step-at.result c.min.result room small c.loop-k.invariant.2,
+    )
