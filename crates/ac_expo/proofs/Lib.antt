@@ -1,0 +1,10 @@
+pub mod Zeros
+pub mod Walk
+pub mod Spread
+pub mod Minima
+pub mod Formula
+pub mod Numbers
+pub mod Kept
+pub mod Places
+pub mod Spellings
+pub mod Refusals

@@ -1,0 +1,6 @@
+use Rattle.std.proofs.Common.{◌≡◌}
+use Rattle.ac_expo.specs.Groups.{first_of, groups_below}
+use Rattle.ac_expo.proofs.grouping.group.Given as goal
+
+abbrev pub invariant-loop-place : goal.invariant-loop-place
+invariant-loop-place l = l.spelled ≡ record { first = first_of l.span l.exps; groups = groups_below l.kind l.span l.exps l.place }

@@ -1,0 +1,49 @@
+-- Raw exponents of coefficients of scale 2 ^ 24.
+use Rattle.std.specs.Prelude.{◌≡◌, ℕ, zero, suc, ◌*◌, ◌^◌, ◌<◌, ◌≤◌, nat_lt, if◌then◌else◌, ℤ, pos, List, [], slice_index, slice_index_or, unsigned_abs}
+use Rattle.ac_base.specs.declared.shapes.Shape.{Shape}
+use Rattle.ac_base.specs.declared.spans.Span.{Span}
+use Rattle.ac_base.specs.Shape.{span_of, coded_of}
+use Rattle.ac_expo.specs.Spans.{IsIn}
+
+-- the greatest e from 0 to n with magnitude * 2 ^ e below 2 ^ 24, by a search downwards
+unfoldable pub raw_below : ℕ → ℕ → ℕ
+raw_below zero magnitude = 0
+raw_below (suc e) magnitude = if nat_lt (magnitude * 2 ^ suc e) (2 ^ 24) then suc e else raw_below e magnitude
+
+-- the raw exponent: the greatest from 0 to 24
+abbrev pub raw_of : ℤ → ℕ
+raw_of c = raw_below 24 (unsigned_abs c)
+
+pub record IsRaw (c : ℤ) (e : ℕ) : Type 0 where
+  pub bound : e ≤ 24
+  pub fits : unsigned_abs c * 2 ^ e < 2 ^ 24
+  pub greatest : (other : ℕ) → other ≤ 24 → unsigned_abs c * 2 ^ other < 2 ^ 24 → other ≤ e
+
+abbrev pub RawIsGreatest : Type 0
+RawIsGreatest = (c : ℤ) → unsigned_abs c < 2 ^ 24 → IsRaw c (raw_of c)
+
+-- ---- the raw exponents of a frame: by coded channel, block and bin of the channel's span
+abbrev pub AreRawInRow : Span → List ℤ → List ℕ → Type 0
+AreRawInRow span cs es = (k : ℕ) → IsIn span k → slice_index es k ≡ raw_of (slice_index_or cs k (pos 0))
+
+abbrev pub AreRawInBlocks : Span → List (List ℤ) → List (List ℕ) → Type 0
+AreRawInBlocks span cs es = (b : ℕ) → b < 6 → AreRawInRow span (slice_index_or cs b []) (slice_index_or es b [])
+
+abbrev pub channel_span : Shape → ℕ → Span
+channel_span shape c = span_of shape.acmod shape.bw shape.couple c
+
+abbrev pub channels : Shape → ℕ
+channels shape = coded_of shape.acmod shape.lfe shape.couple
+
+abbrev pub AreRaw : Shape → List (List (List ℤ)) → List (List (List ℕ)) → Type 0
+AreRaw shape cs es = (c : ℕ) → c < channels shape → AreRawInBlocks (channel_span shape c) (slice_index_or cs c []) (slice_index_or es c [])
+
+-- the coefficients of the spans are below 2 ^ 24 in magnitude
+abbrev pub AreSmallInRow : Span → List ℤ → Type 0
+AreSmallInRow span cs = (k : ℕ) → IsIn span k → unsigned_abs (slice_index_or cs k (pos 0)) < 2 ^ 24
+
+abbrev pub AreSmallInBlocks : Span → List (List ℤ) → Type 0
+AreSmallInBlocks span cs = (b : ℕ) → b < 6 → AreSmallInRow span (slice_index_or cs b [])
+
+abbrev pub AreSmall : Shape → List (List (List ℤ)) → Type 0
+AreSmall shape cs = (c : ℕ) → c < channels shape → AreSmallInBlocks (channel_span shape c) (slice_index_or cs c [])

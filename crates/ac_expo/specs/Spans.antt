@@ -1,0 +1,24 @@
+-- The bins of a span, and the kinds of exponents that its channel takes (A/52 5.4.3.22 to 5.4.3.24).
+use Rattle.std.specs.Prelude.{ℕ, ◌<◌, ◌≤◌, Bool, true, false}
+use Rattle.ac_base.specs.declared.spans.Lead.{Lead}
+use Rattle.ac_base.specs.declared.spans.Lead.TheVariants.{Free, Coupled, Coupling, Low}
+use Rattle.ac_base.specs.declared.spans.Span.{Span}
+
+abbrev pub is_coupling : Lead → Bool
+is_coupling Free = false
+is_coupling Coupled = false
+is_coupling Coupling = true
+is_coupling Low = false
+
+abbrev pub IsIn : Span → ℕ → Type 0
+IsIn span bin = (span.start ≤ bin) × (bin < span.end)
+
+-- the kinds are 1 for D15, 2 for D25 and 3 for D45; LFE has D15 alone
+abbrev pub greatest_kind : Lead → ℕ
+greatest_kind Free = 3
+greatest_kind Coupled = 3
+greatest_kind Coupling = 3
+greatest_kind Low = 1
+
+abbrev pub IsKind : ℕ → Span → Type 0
+IsKind kind span = (1 ≤ kind) × (kind ≤ greatest_kind span.lead)

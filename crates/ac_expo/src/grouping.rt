@@ -1,0 +1,123 @@
+//! From a list of exponents to its groups.
+ghost use Rattle.std.specs.Prelude.{◌≡◌, ℕ, ◌+◌, ◌-◌, ◌*◌, ◌<◌, ◌≤◌, length, slice_index};
+ghost use Rattle.ac_expo.specs.Spans.{IsIn, IsKind, is_coupling};
+ghost use Rattle.ac_base.specs.Shape.{IsSpan};
+ghost use Rattle.ac_expo.specs.Steps.{step_of, bin_of, groups_of, last_step};
+ghost use Rattle.ac_expo.specs.Greatest.{IsSpellable};
+ghost use Rattle.ac_expo.specs.Groups.{first_of, reference, past, at_step, mapped, group_of, groups_below, spelled_of};
+
+use crate::spelled::Spelled;
+use crate::steps::{coupling, groups, step};
+use ac_base::{Lead, Span};
+
+/// The first bin of a step that isn't step 0.
+#[tactic(auto, unfolding(crate::specs::Steps::bin_of))]
+fn first_bin(kind: u8, span: &Span, at: usize) -> usize
+    requires kind { IsKind kind span.now }
+    requires some { 0 < at }
+    requires bound { at ≤ 252 }
+    ensures { result ≡ bin_of kind span.now at }
+{
+    let first = usize::from(span.start) + usize::from(!coupling(span.lead));
+    match kind {
+        1 => first + (at - 1),
+        2 => first + 2 * (at - 1),
+        _ => first + 4 * (at - 1),
+    }
+}
+
+/// The 4-bit exponent: that of bin 0, or half that of the coupling start.
+fn first(span: &Span, exps: &[u8; 256]) -> u8
+    ensures { result ≡ first_of span.now exps.now }
+{
+    if coupling(span.lead) {
+        exps[usize::from(span.start)] / 2
+    } else {
+        exps[0]
+    }
+}
+
+/// The exponent before the first difference.
+pub fn before(lead: Lead, first: u8) -> u8
+    requires { first ≤ 15 }
+    ensures value { result ≡ reference lead first }
+    ensures bound { result ≤ 30 }
+{
+    if coupling(lead) { 2 * first } else { first }
+}
+
+/// The exponent of a step past the end: the greatest that can be spelled.
+#[tactic(auto, unfolding(crate::specs::Groups::past))]
+fn beyond(kind: u8, span: &Span, exps: &[u8; 256], at: usize) -> u8
+    requires kind { IsKind kind span.now }
+    requires span { IsSpan span.now }
+    requires bound { at ≤ 252 }
+    ensures { result ≡ past kind span.now exps.now at }
+{
+    let last = usize::from(span.end) - 1;
+    let steps = at.saturating_sub(step(kind, span, last));
+    (usize::from(exps[last]) + 2 * steps).min(24) as u8
+}
+
+/// The exponent of a step.
+fn exponent(kind: u8, span: &Span, exps: &[u8; 256], at: usize) -> u8
+    requires kind { IsKind kind span.now }
+    requires span { IsSpan span.now }
+    requires can { IsSpellable kind span.now exps.now }
+    requires bound { at ≤ 252 }
+    ensures { result ≡ at_step kind span.now exps.now at }
+{
+    if at == 0 {
+        return before(span.lead, first(span, exps));
+    }
+    let bin = first_bin(kind, span, at);
+    if bin < usize::from(span.end) {
+        exps[bin]
+    } else {
+        beyond(kind, span, exps, at)
+    }
+}
+
+/// A difference plus 2.
+fn difference(kind: u8, span: &Span, exps: &[u8; 256], i: usize) -> u8
+    requires kind { IsKind kind span.now }
+    requires span { IsSpan span.now }
+    requires can { IsSpellable kind span.now exps.now }
+    requires bound { i < 252 }
+    ensures value { result ≡ mapped kind span.now exps.now i }
+    ensures bound { result ≤ 4 }
+{
+    exponent(kind, span, exps, i + 1) + 2 - exponent(kind, span, exps, i)
+}
+
+/// A group of three differences in 7 bits.
+fn packed(kind: u8, span: &Span, exps: &[u8; 256], place: usize) -> u8
+    requires kind { IsKind kind span.now }
+    requires span { IsSpan span.now }
+    requires can { IsSpellable kind span.now exps.now }
+    requires bound { place < 84 }
+    ensures { result ≡ group_of kind span.now exps.now place }
+{
+    let first = difference(kind, span, exps, 3 * place);
+    let second = difference(kind, span, exps, 3 * place + 1);
+    let third = difference(kind, span, exps, 3 * place + 2);
+    25 * first + 5 * second + third
+}
+
+/// The spelling of a list of exponents that its kind can spell (A/52 7.1.3): a group is `25 * M1 + 5 * M2 + M3`, each M
+/// a difference plus 2, and steps past the end of the span rise as far as they can.
+pub fn group(kind: u8, span: &Span, exps: &[u8; 256]) -> Spelled
+    requires kind { IsKind kind span.now }
+    requires span { IsSpan span.now }
+    requires can { IsSpellable kind span.now exps.now }
+    ensures spelled { result ≡ spelled_of kind span.now exps.now }
+    ensures first { result.first ≤ 15 }
+    ensures count { length result.groups ≡ groups_of kind span.now }
+    ensures small { (place : ℕ) → place < length result.groups → slice_index result.groups place ≤ 124 }
+{
+    let mut spelled = Spelled::new(first(span, exps));
+    for place in 0..groups(kind, span) {
+        spelled.push(packed(kind, span, exps, usize::from(place)));
+    }
+    spelled
+}

@@ -1,0 +1,26 @@
+//! Exponents of runs of blocks: raw exponents, the greatest list that a strategy can spell, its groups, and the
+//! strategy codes (A/52 7.1).
+#![tactic(auto)]
+
+mod expanding;
+mod grouping;
+mod laws;
+mod lists;
+mod raw;
+mod raws;
+mod run;
+mod smooth;
+mod spelled;
+mod steps;
+mod word;
+
+pub use expanding::{BadExponent, expand};
+pub use grouping::group;
+pub use laws::{exponent_laws, word_laws};
+pub use lists::greatest;
+pub use raw::raw_exponent;
+pub use raws::RawExps;
+pub use run::{Run, runs};
+pub use spelled::Spelled;
+pub use steps::groups;
+pub use word::{Assign, Word, word_at};

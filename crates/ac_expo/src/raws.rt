@@ -1,0 +1,60 @@
+//! The raw exponents of a frame.
+ghost use Rattle.std.specs.Prelude.{◌≡◌, ℕ, ◌<◌, ◌≤◌, List, [], length, slice_index, slice_index_or};
+ghost use Rattle.ac_base.specs.Shape.{coded_of};
+ghost use Rattle.ac_expo.specs.Raw.{raw_of, channels, AreRawInRow, AreRawInBlocks, AreRaw, AreSmallInRow, AreSmallInBlocks, AreSmall};
+
+use crate::raw::raw_exponent;
+use ac_base::{Coefs, Shape, Span};
+
+/// The raw exponents of a frame: coded channel, block, bin.
+#[derive(Clone, Copy, Debug, PartialEq, Eq)]
+pub struct RawExps {
+    pub e: [[[u8; 256]; 6]; 7],
+}
+
+static SILENCE: RawExps = RawExps {
+    e: [[[24; 256]; 6]; 7],
+};
+
+fn write_row(row: &[i32; 256], span: &Span, out: &mut [u8; 256])
+    requires end { span.now.end ≤ 253 }
+    requires small { AreSmallInRow span.now row.now }
+    ensures { AreRawInRow span.now row.now out.new }
+{
+    for k in usize::from(span.start)..usize::from(span.end) {
+        out[k] = raw_exponent(row[k]);
+    }
+}
+
+fn write_blocks(rows: &[[i32; 256]; 6], span: &Span, out: &mut [[u8; 256]; 6])
+    requires end { span.now.end ≤ 253 }
+    requires small { AreSmallInBlocks span.now rows.now }
+    ensures { AreRawInBlocks span.now rows.now out.new }
+{
+    for b in 0..6 {
+        write_row(&rows[b], span, &mut out[b]);
+    }
+}
+
+fn write_channels(shape: &Shape, coefs: &Coefs, out: &mut RawExps)
+    requires { AreSmall shape.now coefs.now.c }
+    ensures { AreRaw shape.now coefs.now.c out.new.e }
+{
+    for c in 0..shape.coded() {
+        let at = usize::from(c);
+        write_blocks(&coefs.c[at], &shape.span(c), &mut out.e[at]);
+    }
+}
+
+impl RawExps {
+    /// The raw exponents of coefficients of scale 2^24, in the spans of the coded channels; each other entry is 24.
+    pub fn of(shape: &Shape, coefs: &Coefs) -> RawExps
+        requires { AreSmall shape.now coefs.now.c }
+        ensures { AreRaw shape.now coefs.now.c result.e }
+    {
+        let silence = &SILENCE;
+        let mut exps = *silence;
+        write_channels(shape, coefs, &mut exps);
+        exps
+    }
+}
