@@ -4,7 +4,7 @@ use Rattle.std.specs.Prelude.{nat_lt, slice_range, if◌then◌else◌}
 use Rattle.std.proofs.lemmas.Bool.{cases_lt, lt-ltb, le-ltb}
 use Rattle.std.proofs.lemmas.List.{append-nil, get_or_append_left, get_or-append-add, get_or-drop, get_or-take, get_or-replicate}
 use Rattle.ac_base.specs.Sigma.{Within}
-use Rattle.ac_mdct.specs.Wave.{Lists}
+use Rattle.ac_base.specs.Sigma.{Lists}
 use Rattle.ac_enc.specs.Frame.{IsFrame, joined}
 use Rattle.ac_enc.proofs.Places.{frame_same}
 use Rattle.ac_app.specs.Sound.{sample_of, sound_at}

@@ -5,7 +5,7 @@ use Rattle.std.proofs.lemmas.Bool.{cases_lt, lt-ltb, le-ltb}
 use Rattle.std.proofs.lemmas.List.{take-append-le, drop-append-le, take-append-drop, take_all, drop-drop, drop_all}
 use Rattle.byteorder.specs.Endian.{little_number, twos_complement}
 use Rattle.ac_io.specs.Outside.{ReadsFront}
-use Rattle.ac_mdct.specs.Wave.{Lists}
+use Rattle.ac_base.specs.Sigma.{Lists}
 use Rattle.ac_app.specs.Sound.{sample_of, sample_count, sound_at}
 use Rattle.ac_app.specs.Stream.{places}
 use Rattle.ac_app.specs.World.{IsBefore}

@@ -1,7 +1,7 @@
 //! The loop over the frames: samples are read, the frame is written, and its line is reported.
 ghost use Rattle.std.specs.Prelude.{replicate, slice_range, ◌≡◌, ℕ, ◌+◌, ◌*◌, ◌^◌, ◌<◌, ◌≤◌, List, ◌++◌, take, drop, length, Option, Some, Result, Ok, Err, OnOk, OnErr, IfErr, IsErrOf, ℤ, pos};
 ghost use Rattle.ac_base.specs.Sigma.{Within};
-ghost use Rattle.ac_mdct.specs.Wave.{Lists};
+ghost use Rattle.ac_base.specs.Sigma.{Lists};
 ghost use Rattle.ac_io.specs.Outside.{Rose};
 ghost use Rattle.ac_enc.specs.Frame.{IsRate, IsFrame};
 ghost use Rattle.ac_app.specs.Sound.{sample_of};

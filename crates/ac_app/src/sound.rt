@@ -1,7 +1,7 @@
 //! The samples of a frame.
 ghost use Rattle.std.specs.Prelude.{◌≡◌, ℕ, ◌+◌, ◌-◌, ◌*◌, ◌/◌, ◌^◌, ◌<◌, ◌≤◌, List, length, drop, ℤ, pos, ◌*ℤ◌, unsigned_abs, slice_index_or};
 ghost use Rattle.ac_base.specs.Sigma.{Within};
-ghost use Rattle.ac_mdct.specs.Wave.{Lists};
+ghost use Rattle.ac_base.specs.Sigma.{Lists};
 ghost use Rattle.byteorder.specs.Endian.{little_number, twos_complement};
 ghost use Rattle.ac_app.specs.Sound.{sample_of, frame_count};
 

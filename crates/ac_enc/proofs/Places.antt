@@ -1,6 +1,48 @@
-use Rattle.std.proofs.Common.{◌≡◌, ℕ, ◌<◌, List, ℤ}
-use Rattle.ac_enc.specs.Frame.{IsFrame}
+-- A frame's places are told by their values alone.
+use Rattle.std.proofs.Common.{◌≡◌, ℕ, ◌+◌, ◌-◌, ◌*◌, ◌<◌, List, ℤ, pos, ◌++◌, slice_index_or, length, ap, sym, ◌∙◌, arith, inl, inr}
+use Rattle.std.specs.Prelude.{◌*ℤ◌}
+use Rattle.std.proofs.lemmas.Bool.{cases_lt}
+use Rattle.std.proofs.lemmas.List.{get_or_append_left, get_or-append-add}
+use Rattle.ac_base.specs.Cosine.{cosine_at}
+use Rattle.ac_base.specs.Sigma.{Lists}
+use Rattle.ac_base.specs.Window.{window_of}
+use Rattle.ac_base.proofs.Rearranged.{sigma_same}
+use Rattle.ac_mdct.specs.Forward.{phase, rounded, windowed, forward_sum, coefficient}
+use Rattle.ac_expo.specs.Raw.{raw_of}
+use Rattle.ac_enc.specs.Frame.{IsFrame, coefficient_at, AreRaw}
+
+-- a sum is told by its terms
+sum_same : (v u : ℕ → ℤ) (k : ℕ) → ((n : ℕ) → n < 512 → v n ≡ u n) → forward_sum v k ≡ forward_sum u k
+sum_same v u k same = sigma_same 512 (λ n. v n *ℤ cosine_at (phase k n)) (λ n. u n *ℤ cosine_at (phase k n)) (λ n below. ap (λ z. z *ℤ cosine_at (phase k n)) (same n below))
+
+coefficient_same : (x y : ℕ → ℤ) → ((p : ℕ) → p < 1792 → x p ≡ y p) → (b k : ℕ) → b < 6 → coefficient_at x b k ≡ coefficient_at y b k
+coefficient_same x y same b k below =
+    ap coefficient (sum_same (λ n. rounded (x (256 * b + n)) (window_of n)) (λ n. rounded (y (256 * b + n)) (window_of n)) k (λ n within. ap (λ z. rounded z (window_of n)) (same (256 * b + n) (omega arith))))
 
 pub frame_same : (rate : ℕ) (x y : ℕ → ℤ) (frame : List ℕ) → ((p : ℕ) → p < 1792 → x p ≡ y p) → IsFrame rate x frame → IsFrame rate y frame
-unfolding IsFrame
-frame_same rate x y frame same h = tt
+frame_same rate x y frame same f = record {
+    code = f.code;
+    has_code = f.has_code;
+    raw = f.raw;
+    is_raw = λ b block k bin. f.is_raw b block k bin ∙ ap raw_of (coefficient_same x y same b k block);
+    exps = f.exps;
+    is_exps = f.is_exps;
+    plain = f.plain;
+}
+
+-- two blocks side by side
+side_by_side : (x : ℕ → ℤ) (b : ℕ) (prev now : List ℤ) → length prev ≡ 256 → Lists 256 (λ n. x (256 * b + n)) prev → Lists 256 (λ n. x (256 * (b + 1) + n)) now
+    → (n : ℕ) → n < 512 → slice_index_or (prev ++ now) n (pos 0) ≡ x (256 * b + n)
+side_by_side x b prev now long before after n within =
+    elim (cases_lt n 256) [
+      | inl h ↦ get_or_append_left prev now (pos 0) n (omega arith) ∙ before n h
+      | inr h ↦
+        let at : n ≡ length prev + (n - 256) = omega arith in
+        let same : 256 * (b + 1) + (n - 256) ≡ 256 * b + n = omega arith in
+        ap (λ m. slice_index_or (prev ++ now) m (pos 0)) at ∙ (get_or-append-add prev now (n - 256) (pos 0) ∙ (after (n - 256) (omega arith) ∙ ap x same))
+    ]
+
+pub block_sum : (x : ℕ → ℤ) (b k : ℕ) (prev now : List ℤ) → length prev ≡ 256 → Lists 256 (λ n. x (256 * b + n)) prev → Lists 256 (λ n. x (256 * (b + 1) + n)) now
+    → coefficient (forward_sum (windowed (prev ++ now)) k) ≡ coefficient_at x b k
+block_sum x b k prev now long before after =
+    ap coefficient (sum_same (windowed (prev ++ now)) (λ n. rounded (x (256 * b + n)) (window_of n)) k (λ n within. ap (λ z. rounded z (window_of n)) (side_by_side x b prev now long before after n within)))

@@ -11,7 +11,7 @@ use Rattle.ac_mdct.specs.Forward.{phase, forward_sum, windowed}
 use Rattle.ac_mdct.specs.Inverse.{inverse_sum}
 use Rattle.ac_mdct.specs.Place.{place, unfolded}
 use Rattle.ac_mdct.specs.Powers.{log_of, forward_spun}
-use Rattle.ac_mdct.specs.Wave.{Lists}
+use Rattle.ac_base.specs.Sigma.{Lists}
 use Rattle.ac_mdct.proofs.Halves.{odd_places, even_places, forward_folds, place_low, place_high}
 use Rattle.ac_mdct.proofs.Spins.{forward_spins}
 

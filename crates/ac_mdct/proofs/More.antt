@@ -1,9 +1,13 @@
 -- One entry more.
-use Rattle.std.proofs.Common.{◌≡◌, ◌≢◌, ℕ, ◌+◌, ◌<◌, ◌≤◌, ℤ, pos, List, length, slice_index_or, unsigned_abs, arith, below_more, get_or-set_other, get_or-set_same, inl, inr, subst, sym}
+use Rattle.std.proofs.Common.{◌^◌, ◌-◌, ◌≡◌, ◌≢◌, ℕ, ◌+◌, ◌<◌, ◌≤◌, ℤ, pos, neg_ℤ, ◌+ℤ◌, List, length, slice_index_or, unsigned_abs, arith, below_more, get_or-set_other, get_or-set_same, inl, inr, subst, sym}
 use Rattle.std.proofs.lemmas.Bool.{cases_eq}
 use Rattle.std.proofs.Math.ListN.{set}
+use Rattle.std.proofs.lemmas.Int.{ints, int_min_is, int_max_is}
+use Rattle.std.specs.Int.{int_max, int_min}
+use Rattle.ac_base.specs.Floor.{floor_div}
 use Rattle.ac_base.specs.Sigma.{Within}
-use Rattle.ac_mdct.specs.Wave.{Lists}
+use Rattle.ac_mdct.specs.Forward.{coefficient}
+use Rattle.ac_base.specs.Sigma.{Lists}
 
 pub lists_more : (f : ℕ → ℤ) (n : ℕ) (xs : List ℤ) (z : ℤ) → n < length xs → Lists n f xs → z ≡ f n → Lists (n + 1) f (set xs n z)
 lists_more f n xs z room before here =
@@ -24,3 +28,14 @@ within_set m n i xs z room before here k below =
       | inl same ↦ let P : ℕ → Type 0 = λ j. unsigned_abs (slice_index_or (set xs i z) j (pos 0)) ≤ m in subst P (sym same) (rw get_or-set_same here)
       | inr apart ↦ rw get_or-set_other (before k below)
     ]
+
+clamped : (z : ℤ) → unsigned_abs (int_max (neg_ℤ (pos (2 ^ 24 - 1))) (int_min z (pos (2 ^ 24 - 1)))) ≤ 2 ^ 24 - 1
+clamped z =
+    let low = int_min_is z (pos (2 ^ 24 - 1)) in
+    let high = int_max_is (neg_ℤ (pos (2 ^ 24 - 1))) (int_min z (pos (2 ^ 24 - 1))) in
+    omega (arith, ints, low, high)
+
+-- a coefficient is less than 2 ^ 24 in magnitude
+pub coefficient_bound : (s : ℤ) → unsigned_abs (coefficient s) ≤ 2 ^ 24 - 1
+unfolding coefficient
+coefficient_bound s = clamped (floor_div (neg_ℤ s +ℤ pos (2 ^ 36)) (2 ^ 37))

@@ -1,21 +1,25 @@
-// The transforms by 256 products a sum: folded, and in the order of logarithms.
+//! The transforms by 256 products a sum: folded, and in the order of logarithms.
 ghost use Rattle.std.specs.Prelude.{◌≡◌, ◌<◌, ◌≤◌, ◌^◌, ◌+◌, ◌-◌, ◌++◌, ℕ, pos, neg_ℤ, unsigned_abs, slice_index_or};
 ghost use Rattle.ac_base.specs.Sigma.{Within};
 ghost use Rattle.ac_mdct.specs.Forward.{windowed, forward_sum, IsForward};
 ghost use Rattle.ac_mdct.specs.Inverse.{inverse_sum, part, IsSound, IsDelay};
 ghost use Rattle.ac_mdct.specs.Place.{place, unfolded};
-ghost use Rattle.ac_mdct.specs.Wave.{Lists};
+ghost use Rattle.ac_base.specs.Sigma.{Lists};
 
-use crate::direct::windowed;
+use crate::windowing::windowed;
 use crate::folded::fold;
 use crate::powers::{log, place_of, powers, slid, spin_forward, spin_inverse};
 use crate::rounding::{coefficient_of, part, sample};
 
-/// The coefficients of 256 samples and the 256 after them.
+/// The 256 coefficients of 256 new samples `now` and the 256 before them, `prev` (A/52 8.2.3.2).
+///
+/// Samples have 24 bits, and coefficients the scale 2^24. Each coefficient is the one sum of 512 windowed
+/// products, rounded once and clamped to less than 2^24 in magnitude.
 pub fn forward(prev: &[i32; 256], now: &[i32; 256], out: &mut [i32; 256])
     requires before { Within (2 ^ 23) 256 prev.now }
     requires after { Within (2 ^ 23) 256 now.now }
-    ensures { IsForward prev.now now.now out.new }
+    ensures value { IsForward prev.now now.now out.new }
+    ensures bound { Within (2 ^ 24 - 1) 256 out.new }
 {
     let table = powers();
     let mut v = [0i32; 512];
@@ -71,7 +75,10 @@ fn unfold(sums: &[i64; 256], n: usize) -> i64
     }
 }
 
-/// The samples of a block of coefficients, and what is left for the next.
+/// The 256 samples of a block of coefficients and of what the block before left in `delay`, which then
+/// holds what this block leaves for the next (A/52 7.9.4.1, steps 1 to 6).
+///
+/// Samples have 24 bits and are clamped to them; `delay` has the scale 2^23 times that of a sample.
 pub fn inverse(coefs: &[i32; 256], delay: &mut [i64; 256], out: &mut [i32; 256])
     requires coefs { Within (2 ^ 24) 256 coefs.now }
     requires delay { Within (2 ^ 55) 256 delay.old }

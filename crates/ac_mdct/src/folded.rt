@@ -2,7 +2,7 @@
 ghost use Rattle.std.specs.Prelude.{◌≡◌, ◌<◌, ◌≤◌, ◌^◌, ◌+◌, ◌-◌, ◌+ℤ◌, ◌-ℤ◌, ℕ, pos, unsigned_abs, slice_index_or};
 ghost use Rattle.ac_base.specs.Sigma.{Within};
 ghost use Rattle.ac_mdct.specs.Fold.{folded};
-ghost use Rattle.ac_mdct.specs.Wave.{Lists};
+ghost use Rattle.ac_base.specs.Sigma.{Lists};
 
 #[inline]
 fn minus(a: i32, b: i32) -> i32

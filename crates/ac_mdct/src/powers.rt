@@ -5,7 +5,7 @@ ghost use Rattle.std.specs.Prelude.{◌≡◌, ◌<◌, ◌≤◌, ◌^◌, ◌+
 ghost use Rattle.ac_base.specs.Sigma.{Within, sigma};
 ghost use Rattle.ac_base.specs.Cosine.{cosine_at};
 ghost use Rattle.ac_mdct.specs.Powers.{IsPowers, log_of, forward_pick, inverse_pick, turned_by, forward_spun, inverse_spun};
-ghost use Rattle.ac_mdct.specs.Wave.{Lists};
+ghost use Rattle.ac_base.specs.Sigma.{Lists};
 ghost use Rattle.ac_mdct.specs.Place.{place};
 
 // 2h + 1, or its opposite, is this power of five modulo 2048

@@ -1,6 +1,6 @@
 use Rattle.std.proofs.Common.{◌≡◌, ◌≤◌, ℕ, ◌^◌, length}
 use Rattle.ac_base.specs.Sigma.{Within}
-use Rattle.ac_mdct.specs.Wave.{Lists}
+use Rattle.ac_base.specs.Sigma.{Lists}
 use Rattle.ac_app.specs.Sound.{sample_of}
 use Rattle.ac_app.proofs.sound.samples.Given as goal
 

@@ -1,10 +1,11 @@
-use Rattle.std.proofs.Common.{◌≡◌, ◌<◌, ◌+◌, ◌^◌, ◌++◌, ◌*ℤ◌, pos, length, slice_index_or, SFits, w32, w64, rules, ap, ◌∙◌, arith}
+use Rattle.std.proofs.Common.{◌≡◌, ◌<◌, ◌+◌, ◌^◌, ◌++◌, ◌*ℤ◌, pos, length, slice_index_or, SFits, w32, w64, rules, ap, ◌∙◌, arith, subst, sym, ℤ, unsigned_abs, ◌≤◌, ◌-◌}
 use Rattle.std.proofs.lemmas.Int.{to_z-of_z}
 use Rattle.ac_base.specs.Sigma.{sigma}
 use Rattle.ac_base.specs.Cosine.{cosine_at}
 use Rattle.ac_mdct.specs.Forward.{coefficient, forward_sum, windowed}
 use Rattle.ac_mdct.proofs.Chains.{forward_chain}
 use Rattle.ac_mdct.proofs.More.{lists_more}
+use Rattle.ac_mdct.proofs.More.{coefficient_bound}
 use Rattle.ac_mdct.proofs.fast.forward.Goals as goal
 
 pub loop-k-preserved : goal.loop-k-preserved
@@ -22,3 +23,7 @@ loop-k-preserved c =
       search rules,
       simp to_z-of_z (lists_more (λ k. coefficient (forward_sum (windowed xs) k)) c.loop-k.k c.loop-k.out c.coefficient_of.result room c.loop-k.invariant.1 value),
     )
+
+pub returns-clause-bound : goal.returns-clause-bound
+returns-clause-bound c = λ k below.
+    subst (λ (z : ℤ). unsigned_abs z ≤ 2 ^ 24 - 1) (sym (c.loop-k.invariant.1 k (omega arith))) (coefficient_bound _)

@@ -1,6 +1,6 @@
 use Rattle.std.proofs.Common.{◌≡◌, ◌++◌, length}
 use Rattle.ac_mdct.specs.Forward.{coefficient, forward_sum, windowed}
-use Rattle.ac_mdct.specs.Wave.{Lists}
+use Rattle.ac_base.specs.Sigma.{Lists}
 use Rattle.ac_mdct.proofs.fast.forward.Given as goal
 
 abbrev pub invariant-loop-k : goal.invariant-loop-k

@@ -1,7 +1,7 @@
 use Rattle.std.proofs.Common.{◌≡◌, ◌^◌, length}
 use Rattle.ac_base.specs.Sigma.{Within}
 use Rattle.ac_mdct.specs.Fold.{folded}
-use Rattle.ac_mdct.specs.Wave.{Lists}
+use Rattle.ac_base.specs.Sigma.{Lists}
 use Rattle.ac_mdct.proofs.folded.fold.Given as goal
 
 abbrev pub invariant-loop-i : goal.invariant-loop-i

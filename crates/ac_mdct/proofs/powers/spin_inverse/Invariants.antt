@@ -1,7 +1,7 @@
 use Rattle.std.proofs.Common.{◌≡◌, ◌^◌, length}
 use Rattle.ac_base.specs.Sigma.{Within}
 use Rattle.ac_mdct.specs.Powers.{inverse_spun}
-use Rattle.ac_mdct.specs.Wave.{Lists}
+use Rattle.ac_base.specs.Sigma.{Lists}
 use Rattle.ac_mdct.proofs.powers.spin_inverse.Given as goal
 
 abbrev pub invariant-loop-b : goal.invariant-loop-b

@@ -1,8 +1,8 @@
 use Rattle.std.proofs.Common.{◌≡◌, ◌^◌, ◌++◌, length}
 use Rattle.ac_base.specs.Sigma.{Within}
-use Rattle.ac_mdct.specs.Wave.{Lists}
+use Rattle.ac_base.specs.Sigma.{Lists}
 use Rattle.ac_mdct.specs.Forward.{windowed}
-use Rattle.ac_mdct.proofs.direct.windowed.Given as goal
+use Rattle.ac_mdct.proofs.windowing.windowed.Given as goal
 
 abbrev pub invariant-loop-n : goal.invariant-loop-n
 invariant-loop-n l = (length l.out ≡ 512) × Lists l.n (windowed (l.prev ++ l.now)) l.out × Within (2 ^ 23) l.n l.out

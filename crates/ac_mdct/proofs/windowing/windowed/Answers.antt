@@ -3,7 +3,7 @@ use Rattle.std.proofs.lemmas.Int.{to_z-of_z}
 use Rattle.ac_base.specs.Window.{window_of}
 use Rattle.ac_mdct.specs.Forward.{rounded, windowed}
 use Rattle.ac_mdct.proofs.More.{lists_more, within_more}
-use Rattle.ac_mdct.proofs.direct.windowed.Goals as goal
+use Rattle.ac_mdct.proofs.windowing.windowed.Goals as goal
 
 pub loop-n-preserved : goal.loop-n-preserved
 loop-n-preserved c =
