@@ -23,10 +23,14 @@ pub frame_same : (rate : ℕ) (x y : ℕ → ℤ) (frame : List ℕ) → ((p : �
 frame_same rate x y frame same f = record {
     code = f.code;
     has_code = f.has_code;
-    raw = f.raw;
-    is_raw = λ b block k bin. f.is_raw b block k bin ∙ ap raw_of (coefficient_same x y same b k block);
-    exps = f.exps;
-    is_exps = f.is_exps;
+    spelled = f.spelled;
+    is_spelled = record {
+      raw = f.is_spelled.raw;
+      is_raw = λ b block k bin. f.is_spelled.is_raw b block k bin ∙ ap raw_of (coefficient_same x y same b k block);
+      exps = f.is_spelled.exps;
+      is_exps = f.is_spelled.is_exps;
+      is_spelled = f.is_spelled.is_spelled;
+    };
     plain = f.plain;
 }
 

@@ -9,6 +9,7 @@ use Rattle.ac_mdct.specs.Forward.{rounded, forward_sum, coefficient}
 use Rattle.ac_expo.specs.Raw.{raw_of}
 use Rattle.ac_expo.specs.Greatest.{IsByFormula}
 use Rattle.ac_expo.specs.Groups.{spelled_of}
+use Rattle.ac_expo.specs.Spelling.{Spelling}
 use Rattle.ac_frame.specs.Plain.{IsPlain}
 
 -- coefficient k of block b: the transform of the places 256 b to 256 b + 511 (A/52 8.2.3)
@@ -31,15 +32,21 @@ bandwidth rate = min (rate - 20) 60
 abbrev pub mono_span : ℕ → Span
 mono_span rate = full_span (bandwidth rate) None
 
--- these bytes are the frame of the sound x at a bit rate
-pub record IsFrame (rate : ℕ) (x : ℕ → ℤ) (frame : List ℕ) : Type 0 where
-  pub code : ℕ
-  pub has_code : HasCode rate code
+-- the exponents of all six blocks, grouped as they are sent (A/52 7.1.3): D45 on the raw exponents of x
+pub record IsSpelled (rate : ℕ) (x : ℕ → ℤ) (spelled : Spelling) : Type 0 where
   pub raw : List (List ℕ)
   pub is_raw : AreRaw x raw
   pub exps : List ℕ
   pub is_exps : IsByFormula 3 (mono_span rate) raw 0 6 exps
-  pub plain : IsPlain 0 (2 * code) (2 * rate) (bandwidth rate) (spelled_of 3 (mono_span rate) exps).first (spelled_of 3 (mono_span rate) exps).groups frame
+  pub is_spelled : spelled ≡ spelled_of 3 (mono_span rate) exps
+
+-- these bytes are the frame of the sound x at a bit rate
+pub record IsFrame (rate : ℕ) (x : ℕ → ℤ) (frame : List ℕ) : Type 0 where
+  pub code : ℕ
+  pub has_code : HasCode rate code
+  pub spelled : Spelling
+  pub is_spelled : IsSpelled rate x spelled
+  pub plain : IsPlain 0 (2 * code) (2 * rate) (bandwidth rate) spelled.first spelled.groups frame
 
 -- the places of a frame, behind the last 256 of the frame before
 abbrev pub joined : List ℤ → List ℤ → ℕ → ℤ

@@ -5,4 +5,6 @@
 mod frame;
 mod raw;
 
+pub use frame::encode_frame;
+
 

@@ -63,6 +63,13 @@ impl Spelled {
         self.cells[usize::from(place)]
     }
 
+    /// The groups, in their order.
+    pub fn groups(&self) -> &[u8]
+        ensures { result.now ≡ self.now.groups }
+    {
+        &self.cells[..usize::from(self.count)]
+    }
+
     /// Puts a group at the end.
     pub fn push(&mut self, group: u8)
         requires { length self.old.groups < 84 }

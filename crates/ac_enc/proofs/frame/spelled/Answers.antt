@@ -1,0 +1,16 @@
+use Rattle.std.proofs.Common.{subst, ap, ◌∙◌}
+use Rattle.ac_base.specs.declared.spans.Span.{Span}
+use Rattle.ac_expo.specs.Greatest.{IsByFormula}
+use Rattle.ac_expo.specs.Groups.{spelled_of}
+use Rattle.ac_enc.proofs.frame.spelled.Goals as goal
+
+pub returns-clause-value : goal.returns-clause-value
+returns-clause-value c =
+    let is = c.span_of-span.ensures.value in
+    record {
+      raw = c.raw_blocks.new.raw;
+      is_raw = c.raw_blocks.ensures;
+      exps = c.greatest.new.out;
+      is_exps = subst (λ (s : Span). IsByFormula 3 s c.raw_blocks.new.raw 0 6 c.greatest.new.out) is c.greatest.ensures.formula;
+      is_spelled = c.group.ensures.spelled ∙ ap (λ s. spelled_of 3 s c.greatest.new.out) is;
+    }
