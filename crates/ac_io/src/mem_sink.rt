@@ -1,6 +1,6 @@
 ghost use Rattle.std.specs.Prelude.{◌≡◌, ◌≤◌, ◌++◌, length, vec_capacity, Some, OnOk, OnErr, IsTrue, IsErr, false};
-ghost use Rattle.ac_io.specs.Outside.{Rose, Adds, AddsFront, next};
-ghost use Rattle.ac_io.specs.Memory.{is_named, after_fault, IsStarved};
+ghost use Rattle.ac_io.specs.Outside.{Rose, Adds, AddsFront};
+ghost use Rattle.ac_io.specs.Memory.{is_named, new_outgoing, TookPiece, after_failed_write, IsStarved};
 
 use crate::memory::is_failing;
 use crate::outside::{Failed, Sink};
@@ -23,13 +23,21 @@ impl Model for MemSink {
 
     ghost Value = { Outgoing };
 
-    ghost view = { λ s. record { held = s.held.items; room = vec_capacity s.held; call = s.call; failing = s.failing.items; faults = s.faults; starved = s.starved } };
+    ghost view = { λ s.
+        record {
+          held = s.held.items;
+          room = vec_capacity s.held;
+          call = s.call;
+          failing = s.failing.items;
+          faults = s.faults;
+          starved = s.starved;
+        } };
 }
 
 impl MemSink {
     /// A sink that holds these bytes, and takes their vector's room.
     pub fn new(held: Vec<u8>, failing: Vec<u64>) -> MemSink
-        ensures { result ≡ record { held = held.items; room = vec_capacity held; call = 0; failing = failing.items; faults = 0; starved = 0 } }
+        ensures { result ≡ new_outgoing held.items (vec_capacity held) failing.items }
     {
         MemSink {
             held,
@@ -65,10 +73,10 @@ impl Sink for MemSink {
         ensures failed { OnErr result (Rose self.old.faults self.new.faults) }
         ensures front { OnErr result (AddsFront (Some self.old.held) (Some self.new.held) piece.now) }
         ensures never_falls { self.old.faults ≤ self.new.faults }
-        ensures named { IsTrue (is_named self.old.failing self.old.call) → IsErr result × (self.new ≡ after_fault self.old) }
-        ensures took { OnOk result (self.new ≡ record self.old { held = self.old.held ++ piece.now; room = self.new.room; call = next self.old.call }) }
-        ensures unnamed { OnErr result (is_named self.old.failing self.old.call ≡ false → IsStarved self.old self.new (length piece.now)) }
-        ensures grows { self.old.room ≤ self.new.room }
+        ensures took { OnOk result (TookPiece self.old self.new piece.now) }
+        ensures named { IsTrue (is_named self.old.failing self.old.call) → IsErr result × (self.new ≡ after_failed_write self.old) }
+        ensures unnamed { OnErr result (is_named self.old.failing self.old.call ≡ false
+            → IsStarved self.old self.new (length piece.now)) }
     {
         let fails = is_failing(&self.failing, self.call);
         self.call = self.call.saturating_add(1);

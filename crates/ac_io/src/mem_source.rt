@@ -1,12 +1,13 @@
 ghost use Rattle.std.specs.Prelude.{◌≡◌, ◌<◌, ◌≤◌, ◌++◌, length, take, drop, min, Some, IfOk, OnErr, IsTrue, IsErr, ◌↔◌};
-ghost use Rattle.ac_io.specs.Outside.{Rose, ReadsFront, IsAtEnd, LosesNothing, next};
-ghost use Rattle.ac_io.specs.Memory.{is_named};
+ghost use Rattle.ac_io.specs.Outside.{Rose, ReadsFront, IsAtEnd, LosesNothing};
+ghost use Rattle.ac_io.specs.Memory.{is_named, new_incoming, after_read, after_failed_read};
 
 use crate::memory::{copy_front, is_failing};
 use crate::outside::{Failed, Source};
 use std::marker::Model;
 
-/// Bytes in memory. The calls of `read` whose numbers are in `failing` fail and take nothing; the first has number 0.
+/// Bytes in memory. The calls of `read` whose numbers are in `failing` fail and take nothing; the first
+/// has number 0.
 #[derive(Drop)]
 pub struct MemSource {
     bytes: Vec<u8>,
@@ -22,7 +23,8 @@ impl Model for MemSource {
 
     ghost Value = { Incoming };
 
-    ghost view = { λ s. record { rest = drop s.at s.bytes.items; call = s.call; failing = s.failing.items; faults = s.faults } };
+    ghost view = { λ s.
+        record { rest = drop s.at s.bytes.items; call = s.call; failing = s.failing.items; faults = s.faults } };
 
     ghost invariant = { λ s. s.at ≤ vec_len s.bytes };
 }
@@ -30,7 +32,7 @@ impl Model for MemSource {
 impl MemSource {
     /// A source of these bytes.
     pub fn new(bytes: Vec<u8>, failing: Vec<u64>) -> MemSource
-        ensures { result ≡ record { rest = bytes.items; call = 0; failing = failing.items; faults = 0 } }
+        ensures { result ≡ new_incoming bytes.items failing.items }
     {
         MemSource {
             bytes,
@@ -57,8 +59,8 @@ impl Source for MemSource {
         ensures fails { IsErr result ↔ IsTrue (is_named self.old.failing self.old.call) }
         ensures many { IfOk result (λ n. n ≡ min (length self.old.rest) (length into.old)) }
         ensures bytes { IfOk result (λ n. into.new ≡ take n self.old.rest ++ drop n into.old) }
-        ensures gave { IfOk result (λ n. self.new ≡ record self.old { rest = drop n self.old.rest; call = next self.old.call }) }
-        ensures took_nothing { OnErr result (self.new ≡ record self.old { call = next self.old.call; faults = next self.old.faults }) }
+        ensures gave { IfOk result (λ n. self.new ≡ after_read self.old n) }
+        ensures took_nothing { OnErr result (self.new ≡ after_failed_read self.old) }
         ensures wrote_nothing { OnErr result (into.new ≡ into.old) }
     {
         let fails = is_failing(&self.failing, self.call);

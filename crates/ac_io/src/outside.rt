@@ -13,12 +13,13 @@ pub trait Source {
     /// How many calls failed. The count stands still at the end of its 64 bits.
     ghost faults: { Self → ℕ };
 
-    /// Reads some bytes into the front of `into`, and gives their number. For an `into` that isn't empty,
-    /// 0 is the end of the input.
+    /// Reads some bytes into the front of `into`, and gives their number. For an `into` that isn't
+    /// empty, 0 is the end of the input.
     ///
     /// # Errors
     ///
-    /// `Failed` where the count of faults rose, or stands at its end. A source that still tells its bytes lost none.
+    /// `Failed` where the count of faults rose, or stands at its end. A source that still tells its bytes
+    /// lost none.
     fn read(&mut self, into: &mut [u8]) -> Result<usize, Failed>
         ensures count { IfOk result (λ n. n ≤ length into.old) }
         ensures front { IfOk result (λ n. ReadsFront (left self.old) (left self.new) into.new n) }
@@ -52,11 +53,13 @@ pub trait Sink {
 ///
 /// # Errors
 ///
-/// `Failed` where a read failed. A source that still tells its bytes lost fewer of them than `into` has room for.
+/// `Failed` where a read failed. A source that still tells its bytes lost fewer of them than `into` has
+/// room for.
 pub fn fill<S: Source>(input: &mut S, into: &mut [u8]) -> Result<usize, Failed>
     ensures count { IfOk result (λ n. n ≤ length into.old) }
     ensures front { IfOk result (λ n. ReadsFront (S.left input.old) (S.left input.new) into.new n) }
-    ensures end { IfOk result (λ n. n < length into.old → IfSome (S.left input.old) (λ bytes. n ≡ length bytes)) }
+    ensures end { IfOk result (λ n.
+        n < length into.old → IfSome (S.left input.old) (λ bytes. n ≡ length bytes)) }
     ensures failed { OnErr result (Rose (S.faults input.old) (S.faults input.new)) }
     ensures kept { OnErr result (LosesFewer (S.left input.old) (S.left input.new) (length into.old)) }
     ensures never_falls { S.faults input.old ≤ S.faults input.new }

@@ -88,7 +88,9 @@ pub data Meaning : Type 0 where
   encode : Options → LastWords → Meaning
 
 abbrev pub Means : List Text → Meaning → Type 0
-Means ws (encode o n) = (middle : List Text) × (ws ≡ codes "encode" ∷ (middle ++ last_words n)) × EncodePairs middle o × (are_names n ≡ true)
+Means ws (encode o n) =
+    (middle : List Text) × (ws ≡ codes "encode" ∷ (middle ++ last_words n))
+    × EncodePairs middle o × (are_names n ≡ true)
 
 abbrev pub InGrammar : List Text → Type 0
 InGrammar ws = (m : Meaning) × Means ws m

@@ -1,4 +1,4 @@
-ghost use Rattle.std.specs.Prelude.{◌≡◌, ℕ, ◌<◌, ◌^◌, MatchOption, Some, IsTrue};
+ghost use Rattle.std.specs.Prelude.{◌≡◌, ◌≢◌, ℕ, ◌<◌, ◌^◌, MatchOption, Some, IsTrue};
 ghost use Rattle.std.specs.Fmt.{decimal};
 ghost use Rattle.ac_words.specs.Grammar.{RateOf};
 ghost use Rattle.ac_words.specs.Rates.{is_rate};
@@ -22,7 +22,9 @@ fn is_bare(bytes: &[u8]) -> bool
 
 /// The number that the text writes in decimal digits, without a sign or a leading zero.
 fn written(text: &str) -> Option<u64>
-    ensures { MatchOption result ((n : ℕ) → n < 2 ^ 64 → text.now ≡ decimal n → ⊥) (λ n. text.now ≡ decimal n) }
+    ensures { MatchOption result
+        ((n : ℕ) → n < 2 ^ 64 → text.now ≢ decimal n)
+        (λ n. text.now ≡ decimal n) }
 {
     if !is_bare(text.as_bytes()) {
         return None;
@@ -36,7 +38,9 @@ fn written(text: &str) -> Option<u64>
 /// The number, where it is a rate.
 #[tactic(auto, unfolding(crate::specs::Rates::is_rate))]
 fn as_rate(number: u64) -> Option<u16>
-    ensures { MatchOption result (IsTrue (is_rate number) → ⊥) (λ rate. (rate ≡ number) × IsTrue (is_rate number)) }
+    ensures { MatchOption result
+        (¬ IsTrue (is_rate number))
+        (λ rate. (rate ≡ number) × IsTrue (is_rate number)) }
 {
     match u16::try_from(number) {
         Ok(rate) if RATES.contains(&rate) => Some(rate),
@@ -46,7 +50,9 @@ fn as_rate(number: u64) -> Option<u16>
 
 /// The bit rate that the text writes.
 pub(crate) fn rate_of(text: &str) -> Option<u16>
-    ensures { MatchOption result ((rate : ℕ) → RateOf (Some text.now) rate → ⊥) (RateOf (Some text.now)) }
+    ensures { MatchOption result
+        ((rate : ℕ) → ¬ RateOf (Some text.now) rate)
+        (RateOf (Some text.now)) }
 {
     match written(text) {
         Some(number) => as_rate(number),

@@ -49,7 +49,8 @@ fn are_names(names: Names<'_>) -> bool
 /// The command, the pairs and the names; nothing where the words are fewer than four.
 fn parts_of<'a>(words: &'a [String]) -> Option<Parts<'a>>
     ensures { MatchOption result (length words.entry.now < 4)
-        (λ p. map string_bytes words.entry.now ≡ p.command.now ∷ (map string_bytes p.pairs.now ++ last_words (texts_of p.names))) }
+        (λ p. map string_bytes words.entry.now
+        ≡ p.command.now ∷ (map string_bytes p.pairs.now ++ last_words (texts_of p.names))) }
 {
     match words {
         [command, pairs @ .., from, to, report] => Some(Parts {
@@ -81,7 +82,9 @@ fn only_pair<'a>(words: &'a [String]) -> Option<Pair<'a>>
 
 /// The options of encode that the words between the command and the names give.
 fn encode_options(words: &[String]) -> Option<Options>
-    ensures { MatchOption result ((o : Options) → EncodePairs (map string_bytes words.now) o → ⊥) (EncodePairs (map string_bytes words.now)) }
+    ensures { MatchOption result
+        ((o : Options) → EncodePairs (map string_bytes words.now) o → ⊥)
+        (EncodePairs (map string_bytes words.now)) }
 {
     let Some(pair) = only_pair(words) else {
         return None;
@@ -102,7 +105,7 @@ fn encode_options(words: &[String]) -> Option<Options>
 
 /// What the words mean, where they are in the grammar.
 fn asked_by<'a>(words: &'a [String]) -> Option<Asked<'a>>
-    ensures { MatchOption result (InGrammar (map string_bytes words.entry.now) → ⊥)
+    ensures { MatchOption result (¬ InGrammar (map string_bytes words.entry.now))
         (λ a. Means (map string_bytes words.entry.now) (meaning_of a.command (texts_of a.names))) }
 {
     let Some(parts) = parts_of(words) else {
@@ -130,7 +133,7 @@ fn asked_by<'a>(words: &'a [String]) -> Option<Asked<'a>>
 /// `Usage` where the words are not in the grammar; `NoMemory` for want of memory.
 pub fn names<'a>(alloc: Global, words: &'a [String]) -> Result<Names<'a>, WordsFault>
     ensures ok { IfOk result (λ n. GivesNames (map string_bytes words.entry.now) (texts_of n)) }
-    ensures usage { result ≡ Err Usage → InGrammar (map string_bytes words.entry.now) → ⊥ }
+    ensures usage { result ≡ Err Usage → ¬ InGrammar (map string_bytes words.entry.now) }
 {
     let _ = alloc;
     match asked_by(words) {
@@ -146,7 +149,7 @@ pub fn names<'a>(alloc: Global, words: &'a [String]) -> Result<Names<'a>, WordsF
 /// `Usage` where the words are not in the grammar; `NoMemory` for want of memory.
 pub fn command(alloc: Global, words: &[String]) -> Result<Command, WordsFault>
     ensures ok { IfOk result (GivesCommand (map string_bytes words.now)) }
-    ensures usage { result ≡ Err Usage → InGrammar (map string_bytes words.now) → ⊥ }
+    ensures usage { result ≡ Err Usage → ¬ InGrammar (map string_bytes words.now) }
 {
     let _ = alloc;
     match asked_by(words) {
