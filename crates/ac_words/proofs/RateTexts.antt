@@ -5,7 +5,7 @@ use Rattle.std.specs.List.{list_any, list_all}
 use Rattle.std.specs.Fmt.{decimal}
 use Rattle.std.proofs.lemmas.Bool.Decides.{nat_tests}
 use Rattle.ac_words.specs.Grammar.{RateOf, Text}
-use Rattle.ac_words.specs.Rates.{is_rate, rates}
+use Rattle.ac_base.specs.Rates.{is_rate, rates}
 use Rattle.ac_words.proofs.Numbers.{same_number}
 
 pub both : (a b : Bool) → (a && b) ≡ true → (a ≡ true) × (b ≡ true)

@@ -5,7 +5,7 @@ use Rattle.std.specs.List.{list_all, list_any}
 use Rattle.std.specs.Prelude.{◌≡◌, ℕ, Bool, not, true, nat_lt, ◌||◌, ◌&&◌, List, [], ◌∷◌, ◌++◌, length, Option, None, find, option_map, MatchOption, IsTrue, codes}
 use Rattle.std.specs.Str.{bytes_eq}
 use Rattle.std.specs.Str.Parse.{starts_with_minus}
-use Rattle.ac_words.specs.Rates.{is_rate}
+use Rattle.ac_base.specs.Rates.{is_rate}
 use Rattle.ac_words.specs.declared.meaning.Couple.TheVariants.{Auto}
 use Rattle.ac_words.specs.declared.meaning.Options.{Options}
 

@@ -1,4 +1,3 @@
-pub mod Rates
 pub mod Digits
 pub mod Grammar
 pub mod Asked

@@ -1,13 +1,10 @@
 ghost use Rattle.std.specs.Prelude.{◌≡◌, ◌≢◌, ℕ, ◌<◌, ◌^◌, MatchOption, Some, IsTrue};
 ghost use Rattle.std.specs.Fmt.{decimal};
 ghost use Rattle.ac_words.specs.Grammar.{RateOf};
-ghost use Rattle.ac_words.specs.Rates.{is_rate};
+ghost use Rattle.ac_base.specs.Rates.{is_rate};
 ghost use Rattle.ac_words.specs.Digits.{is_bare_number};
 
-/// The bit rates in kilobits a second (A/52 table 5.18).
-const RATES: [u16; 19] = [
-    32, 40, 48, 56, 64, 80, 96, 112, 128, 160, 192, 224, 256, 320, 384, 448, 512, 576, 640,
-];
+use ac_base::is_rate;
 
 /// Whether the text has no plus before it and no leading zero.
 fn is_bare(bytes: &[u8]) -> bool
@@ -36,14 +33,13 @@ fn written(text: &str) -> Option<u64>
 }
 
 /// The number, where it is a rate.
-#[tactic(auto, unfolding(crate::specs::Rates::is_rate))]
 fn as_rate(number: u64) -> Option<u16>
     ensures { MatchOption result
         (¬ IsTrue (is_rate number))
         (λ rate. (rate ≡ number) × IsTrue (is_rate number)) }
 {
     match u16::try_from(number) {
-        Ok(rate) if RATES.contains(&rate) => Some(rate),
+        Ok(rate) if is_rate(rate) => Some(rate),
         _ => None,
     }
 }
