@@ -5,7 +5,7 @@ use Rattle.ac_words.specs.Grammar.{Text, LastWords, Means, encode, InGrammar, Ra
 use Rattle.ac_words.specs.Asked.{GivesCommand, meaning_of}
 use Rattle.ac_words.specs.declared.meaning.Command.{Command}
 use Rattle.ac_words.specs.declared.meaning.Command.TheVariants.{Encode}
-use Rattle.ac_enc.specs.Frame.{IsRate}
+use Rattle.ac_base.specs.Rates.{IsRate}
 use Rattle.ac_app.specs.declared.status.Status.{Status}
 use Rattle.ac_app.specs.declared.status.Status.TheVariants as statuses
 use Rattle.ac_app.specs.World.{Held, Holds}

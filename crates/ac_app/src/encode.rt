@@ -1,7 +1,7 @@
 //! The command encode.
 ghost use Rattle.std.specs.Prelude.{◌≡◌, ◌≢◌, ◌⊎◌, ℕ, ◌≤◌, ◌^◌, ◌-◌, List, Option, Some, vec_len};
 ghost use Rattle.ac_io.specs.Outside.{Rose};
-ghost use Rattle.ac_enc.specs.Frame.{IsRate};
+ghost use Rattle.ac_base.specs.Rates.{IsRate};
 ghost use Rattle.ac_app.specs.World.{Held, Holds};
 ghost use Rattle.ac_app.specs.Run.{StreamLeaves, EncodeTakes, EncodeGives};
 ghost use Rattle.ac_app.specs.declared.status.Status.TheVariants.{Usage, ReadFault, WriteFault, NoMemory};

@@ -3,7 +3,8 @@ ghost use Rattle.std.specs.Prelude.{replicate, slice_range, ◌≡◌, ℕ, ◌+
 ghost use Rattle.ac_base.specs.Sigma.{Within};
 ghost use Rattle.ac_base.specs.Sigma.{Lists};
 ghost use Rattle.ac_io.specs.Outside.{Rose};
-ghost use Rattle.ac_enc.specs.Frame.{IsRate, IsFrame};
+ghost use Rattle.ac_base.specs.Rates.{IsRate};
+ghost use Rattle.ac_enc.specs.Frame.{IsFrame};
 ghost use Rattle.ac_app.specs.Sound.{sample_of};
 ghost use Rattle.ac_app.specs.Stream.{places};
 ghost use Rattle.ac_app.specs.declared.frames.Stop.TheVariants as stops;
@@ -11,6 +12,7 @@ ghost use Rattle.ac_app.specs.World.{Held, Holds, Emits, IsBefore, IsLast, Frame
 
 use crate::lines;
 use crate::sound::samples;
+use ac_enc::encode_frame;
 use ac_io::{Sink, Source, fill};
 
 /// Why the frames stopped.
@@ -83,7 +85,7 @@ fn encode(rate: u16, last: &mut [i32; 256], pcm: &[i32; 1536], out: &mut [u8; 38
         → IsFrame rate (places bytes i) (take result out.new) × IsLast bytes (i + 1) last.new }
     ensures bound { Within (2 ^ 23) 256 last.new }
 {
-    let size = ac_enc::frame(rate, last, pcm, out);
+    let size = encode_frame(rate, last, pcm, out);
     keep_last(pcm, last);
     size
 }

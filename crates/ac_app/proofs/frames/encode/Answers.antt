@@ -5,12 +5,12 @@ use Rattle.ac_app.proofs.frames.encode.Goals as goal
 
 pub returns-clause-long : goal.returns-clause-long
 returns-clause-long c =
-    let within : c.frame-size.result ≤ length c.frame-size.new.out = omega (arith, c.frame-size.ensures.most, c.frame-size.array_long) in
-    length-take-le c.frame-size.result c.frame-size.new.out within ∙ c.frame-size.ensures.size
+    let within : c.encode_frame-size.result ≤ length c.encode_frame-size.new.out = omega (arith, c.encode_frame-size.ensures.most, c.encode_frame-size.array_long) in
+    length-take-le c.encode_frame-size.result c.encode_frame-size.new.out within ∙ c.encode_frame-size.ensures.size
 
 pub returns-clause-frame : goal.returns-clause-frame
 returns-clause-frame c = λ bytes i before lists.
-    (frame_at c.args.rate bytes i c.args.last.now c.args.pcm.now _ c.told-last before lists c.frame-size.ensures.frame,
+    (frame_at c.args.rate bytes i c.args.last.now c.args.pcm.now _ c.told-last before lists c.encode_frame-size.ensures.frame,
      last_next bytes i c.args.pcm.now c.keep_last.new.last c.keep_last.ensures lists)
 
 pub returns-clause-bound : goal.returns-clause-bound
