@@ -4,3 +4,4 @@ pub mod Samples
 pub mod Places
 pub mod Streams
 pub mod Jobs
+pub mod Ends

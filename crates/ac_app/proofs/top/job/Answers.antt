@@ -1,5 +1,5 @@
 use Rattle.ac_app.proofs.Jobs.{asks, in_grammar, is_rate_asked, job_takes, job_gives}
-use Rattle.ac_app.proofs.run.job.Goals as goal
+use Rattle.ac_app.proofs.top.job.Goals as goal
 
 pub encode-requires : goal.encode-requires
 encode-requires g c = is_rate_asked _ c.in-Ok.asked c.rate_of.result c.rate_of.ensures c.in-Ok.ensures.ok

@@ -1,0 +1,144 @@
+-- How a run ends.
+use Rattle.std.proofs.Common.{◌≡◌, ◌⊎◌, ℕ, ◌+◌, ◌-◌, ◌^◌, ◌≤◌, ◌<◌, min, Bool, true, false, List, ◌++◌, take, length, Option, Some, refl, ap, sym, subst, ◌∙◌, arith, inl, inr}
+use Rattle.ac_words.specs.Grammar.{Text, InGrammar}
+use Rattle.ac_io.specs.Outside.{Rose}
+use Rattle.ac_app.specs.declared.status.WavKind.{WavKind}
+use Rattle.ac_app.specs.declared.status.WavKind.TheVariants.{Short, NotYet}
+use Rattle.ac_app.specs.declared.status.Status.{Status}
+use Rattle.ac_app.specs.declared.status.Status.TheVariants as statuses
+use Rattle.ac_app.specs.Head.{IsPlainHead, IsPlainWav, IsCut, Refuses, data_of, behind, data_size}
+use Rattle.ac_app.specs.Lines.{status_line}
+use Rattle.ac_app.specs.Stream.{frame_lines}
+use Rattle.ac_app.specs.World.{Held, Holds, Frames, OutputFailed, ReportFailed}
+use Rattle.ac_app.specs.Run.{frames_of, Broke, StreamLeaves, AsksEncode, EncodeTakes, EncodeGives, JobTakes, JobGives, Tail, answer_of, RunGives, IsDone}
+
+-- ---- refusals
+
+-- a plain WAV is not refused
+pub plain_not_refused : (bytes : List ℕ) (kind : WavKind) (place : ℕ) → IsPlainWav bytes → Refuses bytes kind place → ⊥
+plain_not_refused bytes Short place wav (at, inl short) = omega (arith, wav.long, short)
+plain_not_refused bytes Short place wav (at, inr cut) = omega (arith, wav.long, cut.2)
+plain_not_refused bytes NotYet place wav r = r.2 wav.head
+
+cut_not_other : (bytes : List ℕ) → IsCut bytes → 44 ≤ length bytes → (IsPlainHead bytes → ⊥) → ⊥
+cut_not_other bytes (inl short) long other = omega arith
+cut_not_other bytes (inr cut) long other = other cut.0
+
+-- a list has one refusal
+pub one_refusal : (bytes : List ℕ) (kind other : WavKind) (place there : ℕ) → Refuses bytes kind place → Refuses bytes other there → statuses.BadWav kind place ≡ statuses.BadWav other there
+one_refusal bytes Short Short place there r s = ap (λ p. statuses.BadWav Short p) (r.0 ∙ sym s.0)
+one_refusal bytes Short NotYet place there r s = absurd (cut_not_other bytes r.1 s.1 s.2)
+one_refusal bytes NotYet Short place there r s = absurd (cut_not_other bytes s.1 r.1 r.2)
+one_refusal bytes NotYet NotYet place there r s = ap (λ p. statuses.BadWav NotYet p) (r.0 ∙ sym s.0)
+
+pub refused_is : (ws : List Text) (result : Status) (bytes : List ℕ) (left : Option (List ℕ)) (kind : WavKind) (place : ℕ) → JobTakes ws result bytes left → InGrammar ws → Refuses bytes kind place
+    → (result ≡ statuses.ReadFault → ⊥) → (result ≡ statuses.NoMemory → ⊥) → result ≡ statuses.BadWav kind place
+refused_is ws statuses.Ok bytes left kind place t g r p q = absurd (plain_not_refused bytes kind place t.1.0 r)
+refused_is ws statuses.Usage bytes left kind place t g r p q = absurd (t.0 g)
+refused_is ws (statuses.BadWav other there) bytes left kind place t g r p q = one_refusal bytes other kind there place t.1 r
+refused_is ws statuses.ReadFault bytes left kind place t g r p q = absurd (p refl)
+refused_is ws statuses.WriteFault bytes left kind place t g r p q = absurd (plain_not_refused bytes kind place t.1.0 r)
+refused_is ws statuses.NoMemory bytes left kind place t g r p q = absurd (q refl)
+
+pub complete_is : (ws : List Text) (result : Status) (bytes : List ℕ) (left : Option (List ℕ)) → JobTakes ws result bytes left → InGrammar ws → IsPlainWav bytes
+    → (result ≡ statuses.ReadFault → ⊥) → (result ≡ statuses.WriteFault → ⊥) → (result ≡ statuses.NoMemory → ⊥) → result ≡ statuses.Ok
+complete_is ws statuses.Ok bytes left t g wav p q m = refl
+complete_is ws statuses.Usage bytes left t g wav p q m = absurd (t.0 g)
+complete_is ws (statuses.BadWav kind place) bytes left t g wav p q m = absurd (plain_not_refused bytes kind place wav t.1)
+complete_is ws statuses.ReadFault bytes left t g wav p q m = absurd (p refl)
+complete_is ws statuses.WriteFault bytes left t g wav p q m = absurd (q refl)
+complete_is ws statuses.NoMemory bytes left t g wav p q m = absurd (m refl)
+
+-- ---- the answer
+
+-- the status line changes Ok alone
+takes_answer : (ws : List Text) (status : Status) (whole : Bool) (bytes : List ℕ) (left : Option (List ℕ)) → JobTakes ws status bytes left → JobTakes ws (answer_of status whole) bytes left
+takes_answer ws statuses.Ok true bytes left t = t
+takes_answer ws statuses.Ok false bytes left t = t
+takes_answer ws statuses.Usage true bytes left t = t
+takes_answer ws statuses.Usage false bytes left t = t
+takes_answer ws (statuses.BadWav kind place) true bytes left t = t
+takes_answer ws (statuses.BadWav kind place) false bytes left t = t
+takes_answer ws statuses.ReadFault true bytes left t = t
+takes_answer ws statuses.ReadFault false bytes left t = t
+takes_answer ws statuses.WriteFault true bytes left t = t
+takes_answer ws statuses.WriteFault false bytes left t = t
+takes_answer ws statuses.NoMemory true bytes left t = t
+takes_answer ws statuses.NoMemory false bytes left t = t
+
+pub ok_answer : (status : Status) (whole : Bool) → answer_of status whole ≡ statuses.Ok → (status ≡ statuses.Ok) × (whole ≡ true)
+ok_answer statuses.Ok true e = (refl, refl)
+ok_answer statuses.Ok false e = absurd cc
+ok_answer statuses.Usage true e = absurd cc
+ok_answer statuses.Usage false e = absurd cc
+ok_answer (statuses.BadWav kind place) true e = absurd cc
+ok_answer (statuses.BadWav kind place) false e = absurd cc
+ok_answer statuses.ReadFault true e = absurd cc
+ok_answer statuses.ReadFault false e = absurd cc
+ok_answer statuses.WriteFault true e = absurd cc
+ok_answer statuses.WriteFault false e = absurd cc
+ok_answer statuses.NoMemory true e = absurd cc
+ok_answer statuses.NoMemory false e = absurd cc
+
+-- ---- what a job leaves in the report is told
+
+abbrev IsTold : Option (List ℕ) → Type 0
+IsTold said = (before : List ℕ) × (said ≡ Some before)
+
+stream_tells : (rate : ℕ) (bytes : List ℕ) (h : Held) (out said : Option (List ℕ)) → Broke rate bytes h out said → IsTold said
+stream_tells rate bytes h out said (k, below, (after, f, inl failed)) = (after.said, failed.said)
+stream_tells rate bytes h out said (k, below, (after, f, inr failed)) = (_, failed.said)
+
+pub job_tells : (ws : List Text) (status : Status) (bytes : List ℕ) (h : Held) (out said : Option (List ℕ)) → JobGives ws status bytes h out said → IsTold said
+job_tells ws statuses.Ok bytes h out said g = (_, g.2.2.1)
+job_tells ws statuses.Usage bytes h out said g = (_, g.1)
+job_tells ws (statuses.BadWav kind place) bytes h out said g = (_, g.2.1)
+job_tells ws statuses.ReadFault bytes h out said g = (_, g.2.1)
+job_tells ws statuses.WriteFault bytes h out said g = stream_tells g.0 (data_of bytes) h out said g.2
+job_tells ws statuses.NoMemory bytes h out said g = (_, g.1)
+
+-- ---- all is done
+
+some_same : (a b : List ℕ) → Some a ≡ Some b → a ≡ b
+some_same a b e = cc
+
+all_done : (ws : List Text) (bytes : List ℕ) (h : Held) (left out said : Option (List ℕ)) → JobTakes ws statuses.Ok bytes left → RunGives ws statuses.Ok bytes h out said → IsDone ws bytes h left out said
+all_done ws bytes h left out said t r =
+    let a = ok_answer r.status r.whole (sym r.answer) in
+    let job = subst (λ (s : Status). JobGives ws s bytes h out (Some r.before)) a.0 r.job in
+    let line = subst (λ (s : Status). Tail r.whole said r.before (status_line s)) a.0 r.line in
+    let whole = subst (λ (w : Bool). Tail w said r.before (status_line statuses.Ok)) a.1 line in
+    let f = job.2.1 in
+    let before : r.before ≡ h.said ++ frame_lines job.0 (frames_of (data_of bytes)) = some_same _ _ job.2.2.1 ∙ f.said in
+    record {
+      rate = job.0;
+      asks = job.1;
+      wav = t.1.0;
+      left = t.1.1;
+      stream = f.stream;
+      is_stream = f.is_stream;
+      out = job.2.2.0 ∙ ap (λ l. Some l) f.out;
+      said = whole ∙ ap (λ l. Some (l ++ status_line statuses.Ok)) before;
+    }
+
+-- ---- the clauses of the run
+
+pub run_takes : (ws : List Text) (status result : Status) (whole : Bool) (bytes : List ℕ) (left : Option (List ℕ)) → result ≡ answer_of status whole → JobTakes ws status bytes left → JobTakes ws result bytes left
+run_takes ws status result whole bytes left e t = subst (λ (s : Status). JobTakes ws s bytes left) (sym e) (takes_answer ws status whole bytes left t)
+
+pub run_gives : (ws : List Text) (status result : Status) (whole : Bool) (bytes : List ℕ) (h : Held) (out mid said : Option (List ℕ)) → result ≡ answer_of status whole → JobGives ws status bytes h out mid
+    → ((before : List ℕ) → mid ≡ Some before → Tail whole said before (status_line status)) → RunGives ws result bytes h out said
+run_gives ws status result whole bytes h out mid said e g tail =
+    let before = job_tells ws status bytes h out mid g in
+    record {
+      status = status;
+      whole = whole;
+      answer = e;
+      before = before.0;
+      job = subst (λ (s : Option (List ℕ)). JobGives ws status bytes h out s) before.1 g;
+      line = tail before.0 before.1;
+    }
+
+pub is_done : (ws : List Text) (result : Status) (bytes : List ℕ) (h : Held) (left out said : Option (List ℕ)) → JobTakes ws result bytes left → RunGives ws result bytes h out said → result ≡ statuses.Ok → IsDone ws bytes h left out said
+is_done ws result bytes h left out said t r e =
+    all_done ws bytes h left out said (subst (λ (s : Status). JobTakes ws s bytes left) e t) (subst (λ (s : Status). RunGives ws s bytes h out said) e r)

@@ -1,0 +1,22 @@
+use Rattle.ac_app.proofs.Ends.{run_takes, run_gives, is_done, refused_is, complete_is}
+use Rattle.ac_app.proofs.top.run.Goals as goal
+
+pub returns-clause-takes : goal.returns-clause-takes
+returns-clause-takes g c = λ bytes told.
+    run_takes _ c.job-status.result c.answer.result c.tell-whole.result bytes _ c.answer.ensures (c.job-status.ensures.takes bytes told)
+
+pub returns-clause-gives : goal.returns-clause-gives
+returns-clause-gives g c = λ bytes h told holds.
+    run_gives _ c.job-status.result c.answer.result c.tell-whole.result bytes h _ _ _ c.answer.ensures (c.job-status.ensures.gives bytes h told holds) c.tell-whole.ensures.line
+
+pub returns-clause-ok : goal.returns-clause-ok
+returns-clause-ok g c = λ bytes h told holds.
+    is_done _ c.answer.result bytes h _ _ _ (returns-clause-takes g c bytes told) (returns-clause-gives g c bytes h told holds)
+
+pub returns-clause-refused : goal.returns-clause-refused
+returns-clause-refused g c = λ bytes kind place told.
+    refused_is _ c.answer.result bytes _ kind place (returns-clause-takes g c bytes told)
+
+pub returns-clause-complete : goal.returns-clause-complete
+returns-clause-complete g c = λ bytes told.
+    complete_is _ c.answer.result bytes _ (returns-clause-takes g c bytes told)
