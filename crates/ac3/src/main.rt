@@ -1,0 +1,91 @@
+//! `ac3 COMMAND OPTIONS IN OUT REPORT`: opens the three named things, does the command, and ends with its code.
+#![tactic(auto)]
+
+use ac_app::{Names, NullSink, Sink, Source, StdSink, StdSource, WordsFault, names, run};
+use std::fs::File;
+use std::process::ExitCode;
+
+/// A file couldn't be opened or created.
+const OPEN_FAULT: u8 = 8;
+
+fn with_report<S: Source, O: Sink>(
+    rt: &HostRuntime,
+    words: &[String],
+    named: &Names<'_>,
+    input: &mut S,
+    output: &mut O,
+) -> u8 {
+    if named.report == "-" {
+        return run(rt.alloc(), words, input, output, &mut NullSink).code();
+    }
+    match File::create(rt, named.report) {
+        Ok(file) => run(rt.alloc(), words, input, output, &mut StdSink::new(file)).code(),
+        Err(_) => OPEN_FAULT,
+    }
+}
+
+fn with_output<S: Source>(
+    rt: &HostRuntime,
+    words: &[String],
+    named: &Names<'_>,
+    input: &mut S,
+) -> u8 {
+    if named.to == "-" {
+        return with_report(rt, words, named, input, &mut StdSink::new(rt.stdout()));
+    }
+    match File::create(rt, named.to) {
+        Ok(file) => with_report(rt, words, named, input, &mut StdSink::new(file)),
+        Err(_) => OPEN_FAULT,
+    }
+}
+
+fn with_input(rt: &HostRuntime, words: &[String], named: &Names<'_>) -> u8 {
+    if named.from == "-" {
+        return with_output(rt, words, named, &mut StdSource::new(rt.stdin()));
+    }
+    match File::open(rt, named.from) {
+        Ok(file) => with_output(rt, words, named, &mut StdSource::new(file)),
+        Err(_) => OPEN_FAULT,
+    }
+}
+
+/// Prints a status line of main's own on standard output.
+fn say(rt: &HostRuntime, line: &str) {
+    let _ = println!(rt; "{line}");
+}
+
+fn perform(rt: &HostRuntime, words: &[String]) -> u8 {
+    match names(rt.alloc(), words) {
+        Ok(named) => {
+            let code = with_input(rt, words, &named);
+            if code == OPEN_FAULT {
+                say(rt, "status 8 open fault");
+            }
+            code
+        }
+        Err(WordsFault::Usage) => {
+            say(rt, "status 1 usage");
+            1
+        }
+        Err(WordsFault::NoMemory) => {
+            say(rt, "status 9 no memory");
+            9
+        }
+    }
+}
+
+fn main(rt: HostRuntime) -> ExitCode {
+    // Arguments that are no text, as a whole, are no words of the grammar.
+    let Ok(arguments) = std::env::args(&rt) else {
+        say(&rt, "status 1 usage");
+        return ExitCode::from(1);
+    };
+    let words: Vec<String> = match arguments.skip(1).collect(rt.alloc()) {
+        Ok(words) => words,
+        Err(_) => {
+            say(&rt, "status 9 no memory");
+            return ExitCode::from(9);
+        }
+    };
+    ExitCode::from(perform(&rt, words.as_slice()))
+}
