@@ -9,9 +9,9 @@ use Rattle.ac_app.specs.Head.{data_size, data_of, behind, HeadRead, HasRead, IsS
 
 whole_read : (bytes : List ℕ) (size : ℕ) (mid left_now : Option (List ℕ)) (taken : List ℕ) → HeadRead bytes size mid → Gathered (drop 44 bytes) size taken left_now → HasRead bytes taken left_now
 whole_read bytes size mid left_now taken h m = record {
-    wav = record { head = h.plain; long = omega (arith, h.stated, h.long, m.long, length-drop 44 bytes) };
-    taken_all = m.taken_all ∙ ap (λ n. take n (drop 44 bytes)) h.stated;
-    left = m.left ∙ ap (λ l. Some l) (drop-drop size 44 bytes ∙ ap (λ n. drop (44 + n) bytes) h.stated);
+  wav = record { head = h.plain; long = omega (arith, h.stated, h.long, m.long, length-drop 44 bytes) };
+  taken_all = m.taken_all ∙ ap (λ n. take n (drop 44 bytes)) h.stated;
+  left = m.left ∙ ap (λ l. Some l) (drop-drop size 44 bytes ∙ ap (λ n. drop (44 + n) bytes) h.stated);
 }
 
 stopped : (bytes : List ℕ) (size : ℕ) (mid : Option (List ℕ)) (fault : WavFault) → HeadRead bytes size mid → IsUngathered (drop 44 bytes) size fault → IsStopped bytes fault

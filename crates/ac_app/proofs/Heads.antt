@@ -15,40 +15,40 @@ name_front p h r long = ap (take 4) (drop-append-le p h r (omega arith)) ∙ tak
 
 pub names_in : (h r : List ℕ) → 44 ≤ length h → HasNames (h ++ r) → HasNames h
 names_in h r long n = record {
-    riff = sym (name_front 0 h r (omega arith)) ∙ n.riff;
-    wave = sym (name_front 8 h r (omega arith)) ∙ n.wave;
-    format = sym (name_front 12 h r (omega arith)) ∙ n.format;
-    sound = sym (name_front 36 h r (omega arith)) ∙ n.sound;
+  riff = sym (name_front 0 h r (omega arith)) ∙ n.riff;
+  wave = sym (name_front 8 h r (omega arith)) ∙ n.wave;
+  format = sym (name_front 12 h r (omega arith)) ∙ n.format;
+  sound = sym (name_front 36 h r (omega arith)) ∙ n.sound;
 }
 
 pub names_out : (h r : List ℕ) → 44 ≤ length h → HasNames h → HasNames (h ++ r)
 names_out h r long n = record {
-    riff = name_front 0 h r (omega arith) ∙ n.riff;
-    wave = name_front 8 h r (omega arith) ∙ n.wave;
-    format = name_front 12 h r (omega arith) ∙ n.format;
-    sound = name_front 36 h r (omega arith) ∙ n.sound;
+  riff = name_front 0 h r (omega arith) ∙ n.riff;
+  wave = name_front 8 h r (omega arith) ∙ n.wave;
+  format = name_front 12 h r (omega arith) ∙ n.format;
+  sound = name_front 36 h r (omega arith) ∙ n.sound;
 }
 
 pub numbers_in : (h r : List ℕ) → 44 ≤ length h → HasNumbers (h ++ r) → HasNumbers h
 numbers_in h r long n = record {
-    size = sym (number_front 16 4 h r (omega arith)) ∙ n.size;
-    tag = sym (number_front 20 2 h r (omega arith)) ∙ n.tag;
-    channels = sym (number_front 22 2 h r (omega arith)) ∙ n.channels;
-    rate = sym (number_front 24 4 h r (omega arith)) ∙ n.rate;
-    align = sym (number_front 32 2 h r (omega arith)) ∙ n.align;
-    bits = sym (number_front 34 2 h r (omega arith)) ∙ n.bits;
-    most = let e = number_front 40 4 h r (omega arith) in subst (λ (m : ℕ). m ≤ 2 ^ 26 - 44) e n.most;
+  size = sym (number_front 16 4 h r (omega arith)) ∙ n.size;
+  tag = sym (number_front 20 2 h r (omega arith)) ∙ n.tag;
+  channels = sym (number_front 22 2 h r (omega arith)) ∙ n.channels;
+  rate = sym (number_front 24 4 h r (omega arith)) ∙ n.rate;
+  align = sym (number_front 32 2 h r (omega arith)) ∙ n.align;
+  bits = sym (number_front 34 2 h r (omega arith)) ∙ n.bits;
+  most = let e = number_front 40 4 h r (omega arith) in subst (λ (m : ℕ). m ≤ 2 ^ 26 - 44) e n.most;
 }
 
 pub numbers_out : (h r : List ℕ) → 44 ≤ length h → HasNumbers h → HasNumbers (h ++ r)
 numbers_out h r long n = record {
-    size = number_front 16 4 h r (omega arith) ∙ n.size;
-    tag = number_front 20 2 h r (omega arith) ∙ n.tag;
-    channels = number_front 22 2 h r (omega arith) ∙ n.channels;
-    rate = number_front 24 4 h r (omega arith) ∙ n.rate;
-    align = number_front 32 2 h r (omega arith) ∙ n.align;
-    bits = number_front 34 2 h r (omega arith) ∙ n.bits;
-    most = let e = number_front 40 4 h r (omega arith) in subst (λ (m : ℕ). m ≤ 2 ^ 26 - 44) (sym e) n.most;
+  size = number_front 16 4 h r (omega arith) ∙ n.size;
+  tag = number_front 20 2 h r (omega arith) ∙ n.tag;
+  channels = number_front 22 2 h r (omega arith) ∙ n.channels;
+  rate = number_front 24 4 h r (omega arith) ∙ n.rate;
+  align = number_front 32 2 h r (omega arith) ∙ n.align;
+  bits = number_front 34 2 h r (omega arith) ∙ n.bits;
+  most = let e = number_front 40 4 h r (omega arith) in subst (λ (m : ℕ). m ≤ 2 ^ 26 - 44) (sym e) n.most;
 }
 
 pub plain_in : (h r bytes : List ℕ) → 44 ≤ length h → h ++ r ≡ bytes → IsPlainHead bytes → IsPlainHead h

@@ -44,9 +44,9 @@ joined_places bytes i last pcm long before lists p below =
     elim (cases_lt p 256) [
       | inl h ↦ get_or_append_left last pcm (pos 0) p (omega arith) ∙ before p h
       | inr h ↦
-        let at : p ≡ length last + (p - 256) = omega arith in
-        ap (λ n. slice_index_or (last ++ pcm) n (pos 0)) at
-        ∙ (get_or-append-add last pcm (p - 256) (pos 0) ∙ own_place bytes i p (p - 256) pcm (omega arith) (omega arith) lists)
+          let at : p ≡ length last + (p - 256) = omega arith in
+          ap (λ n. slice_index_or (last ++ pcm) n (pos 0)) at
+          ∙ (get_or-append-add last pcm (p - 256) (pos 0) ∙ own_place bytes i p (p - 256) pcm (omega arith) (omega arith) lists)
     ]
 
 pub frame_at : (rate : ℕ) (bytes : List ℕ) (i : ℕ) (last pcm : List ℤ) (frame : List ℕ) → length last ≡ 256 → IsLast bytes i last → Lists 1536 (λ t. sample_of bytes (1536 * i + t)) pcm
@@ -98,15 +98,16 @@ one_more rate bytes k h after out said f w =
     let line = frame_line k (frame_size rate k) in
     let is_stream : IsStream rate bytes (suc k) (f.stream ++ w.frame) = (f.stream, w.frame, f.is_stream, w.is_frame, refl) in
     let out_is : after.out ++ w.frame ≡ h.out ++ (f.stream ++ w.frame) = ap (λ l. l ++ w.frame) f.out ∙ append_assoc h.out f.stream w.frame in
-    let said_is : after.said ++ line ≡ h.said ++ frame_lines rate (suc k) = ap (λ l. l ++ line) f.said ∙ append_assoc h.said (frame_lines rate k) line in
-    (record { out = after.out ++ w.frame; said = after.said ++ line },
-     record {
-       stream = f.stream ++ w.frame;
-       is_stream = subst (λ (n : ℕ). IsStream rate bytes n (f.stream ++ w.frame)) more is_stream;
-       out = out_is;
-       said = said_is ∙ ap (λ n. h.said ++ frame_lines rate n) more;
-     },
-     (w.out, w.said))
+    let said_is : after.said ++ line ≡ h.said ++ frame_lines rate (suc k) = ap (λ l. l ++ line) f.said ∙ append_assoc h.said (frame_lines rate k) line in (
+      record { out = after.out ++ w.frame; said = after.said ++ line },
+      record {
+        stream = f.stream ++ w.frame;
+        is_stream = subst (λ (n : ℕ). IsStream rate bytes n (f.stream ++ w.frame)) more is_stream;
+        out = out_is;
+        said = said_is ∙ ap (λ n. h.said ++ frame_lines rate n) more;
+      },
+      (w.out, w.said),
+    )
 
 pub stopped : (rate : ℕ) (bytes : List ℕ) (count i : ℕ) (stop : Stop) (h after : Held) (out said : Option (List ℕ)) → i < count → Frames rate bytes i h after
     → Stops stop rate bytes i after out said → FramesLeave rate bytes count (Err stop) h out said

@@ -64,6 +64,7 @@ samples_read old new into bytes i n pcm before front most short lists =
     let f = subst (λ (o : Option (List ℕ)). ReadsFront o new into n) before front in
     let s = subst (λ (o : Option (List ℕ)). n < 3072 → IfSome o (λ l. n ≡ length l)) before short in
     let piece = full_piece rest n most f.0 s in
-    let more : 3072 * i + 3072 ≡ 3072 * (i + 1) = omega arith in
-    (f.2 ∙ ap (λ l. Some l) (piece.1 ∙ (drop-drop 3072 (3072 * i) bytes ∙ ap (λ m. drop m bytes) more)),
-     λ t below. lists t below ∙ (ap (λ l. sample_of l t) (f.1 ∙ piece.0) ∙ (front_sample rest t below ∙ later_sample bytes i t)))
+    let more : 3072 * i + 3072 ≡ 3072 * (i + 1) = omega arith in (
+      f.2 ∙ ap (λ l. Some l) (piece.1 ∙ (drop-drop 3072 (3072 * i) bytes ∙ ap (λ m. drop m bytes) more)),
+      λ t below. lists t below ∙ (ap (λ l. sample_of l t) (f.1 ∙ piece.0) ∙ (front_sample rest t below ∙ later_sample bytes i t)),
+    )

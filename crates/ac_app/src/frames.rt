@@ -42,12 +42,7 @@ fn read_samples<S: Source>(input: &mut S, pcm: &mut [i32; 1536]) -> Result<(), S
 }
 
 /// Writes a frame and reports it.
-fn emit<O: Sink, N: Sink>(
-    i: u32,
-    frame: &[u8],
-    output: &mut O,
-    report: &mut N,
-) -> Result<(), Stop>
+fn emit<O: Sink, N: Sink>(i: u32, frame: &[u8], output: &mut O, report: &mut N) -> Result<(), Stop>
     ensures leaves { (h : Held) → Holds h (O.held output.old) (N.held report.old)
         → Emits i frame.now result h (O.held output.new) (N.held report.new) }
     ensures not_read { IsErrOf result Stop.Read → ⊥ }

@@ -10,7 +10,12 @@ mod status;
 mod top;
 mod wav;
 
-pub use ac_io::{Failed, MemSink, MemSource, NullSink, Sink, Source, StdSink, StdSource, SureSource};
+pub use ac_io::{
+    Failed, MemSink, MemSource, NullSink, Sink, Source, StdSink, StdSource, SureSource,
+};
 pub use ac_words::{Command, Couple, Names, Options, WordsFault, command, names};
-pub use top::run;
 pub use status::{Status, WavKind};
+pub use top::run;
+
+#[cfg(test)]
+mod tests;

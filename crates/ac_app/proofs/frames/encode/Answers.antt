@@ -9,9 +9,10 @@ returns-clause-long c =
     length-take-le c.encode_frame-size.result c.encode_frame-size.new.out within ∙ c.encode_frame-size.ensures.size
 
 pub returns-clause-frame : goal.returns-clause-frame
-returns-clause-frame c = λ bytes i before lists.
-    (frame_at c.args.rate bytes i c.args.last.now c.args.pcm.now _ c.told-last before lists c.encode_frame-size.ensures.frame,
-     last_next bytes i c.args.pcm.now c.keep_last.new.last c.keep_last.ensures lists)
+returns-clause-frame c = λ bytes i before lists. (
+  frame_at c.args.rate bytes i c.args.last.now c.args.pcm.now _ c.told-last before lists c.encode_frame-size.ensures.frame,
+  last_next bytes i c.args.pcm.now c.keep_last.new.last c.keep_last.ensures lists,
+)
 
 pub returns-clause-bound : goal.returns-clause-bound
 returns-clause-bound c = last_bound c.args.pcm.now c.keep_last.new.last c.keep_last.ensures c.requires.pcm

@@ -6,23 +6,23 @@ use Rattle.ac_app.proofs.frames.frames.Goals as goal
 
 pub loop-i-init : goal.loop-i-init
 loop-i-init g c = record {
-    leaves = λ bytes h left holds. (left, silent bytes c.silence-last.result c.silence-last.ensures, (h, no_frames c.args.rate bytes h, holds));
-    bound = silent_bound c.silence-last.result c.silence-last.ensures;
-    input = omega arith;
-    output = omega arith;
-    report = omega arith;
+  leaves = λ bytes h left holds. (left, silent bytes c.silence-last.result c.silence-last.ensures, (h, no_frames c.args.rate bytes h, holds));
+  bound = silent_bound c.silence-last.result c.silence-last.ensures;
+  input = omega arith;
+  output = omega arith;
+  report = omega arith;
 }
 
 pub loop-i-preserved : goal.loop-i-preserved
 loop-i-preserved g c = record {
-    leaves = λ bytes h left holds.
-        let before = c.loop-i.invariant.leaves bytes h left holds in
-        let here = c.in_ok-frame.ensures.leaves bytes before.2.0 before.1 before.0 before.2.2 in
-        (here.2, here.1, one_more c.args.rate bytes c.loop-i.i h before.2.0 _ _ before.2.1 here.0);
-    bound = c.in_ok-frame.ensures.bound;
-    input = omega (arith, c.in_ok-frame.ensures.input_count, c.loop-i.invariant.input);
-    output = omega (arith, c.in_ok-frame.ensures.output_count, c.loop-i.invariant.output);
-    report = omega (arith, c.in_ok-frame.ensures.report_count, c.loop-i.invariant.report);
+  leaves = λ bytes h left holds.
+      let before = c.loop-i.invariant.leaves bytes h left holds in
+      let here = c.in_ok-frame.ensures.leaves bytes before.2.0 before.1 before.0 before.2.2 in
+      (here.2, here.1, one_more c.args.rate bytes c.loop-i.i h before.2.0 _ _ before.2.1 here.0);
+  bound = c.in_ok-frame.ensures.bound;
+  input = omega (arith, c.in_ok-frame.ensures.input_count, c.loop-i.invariant.input);
+  output = omega (arith, c.in_ok-frame.ensures.output_count, c.loop-i.invariant.output);
+  report = omega (arith, c.in_ok-frame.ensures.report_count, c.loop-i.invariant.report);
 }
 
 pub returns-in_err-frame-clause-leaves : goal.returns-in_err-frame-clause-leaves

@@ -15,8 +15,8 @@ returns-clause-told g c = λ bytes e.
     let h = head_read _ _ c.fill.new.into c.in-Ok.n bytes e c.in-Ok.ensures.front c.fill.auto.into (omega (arith, c.in-Ok.ensures.count)) (omega arith) in
     let plain : IsPlainHead c.fill.new.into = c.if-not-is_plain.ensures.0 refl in
     record {
-        plain = plain_out c.fill.new.into (drop 44 bytes) bytes long h.1 plain;
-        long = h.0;
-        stated = c.stated.ensures ∙ size_same c.fill.new.into (drop 44 bytes) bytes long h.1;
-        left = h.2;
+      plain = plain_out c.fill.new.into (drop 44 bytes) bytes long h.1 plain;
+      long = h.0;
+      stated = c.stated.ensures ∙ size_same c.fill.new.into (drop 44 bytes) bytes long h.1;
+      left = h.2;
     }
