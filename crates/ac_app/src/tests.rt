@@ -61,15 +61,26 @@ fn encoded(alloc: Global, bytes: &[u8]) -> Result<Left, AllocError> {
     left_by(alloc, &words_of(alloc, "192")?, bytes, NONE)
 }
 
-/// A WAV of `samples` zero samples.
-fn silence(alloc: Global, samples: u32) -> Result<Vec<u8>, AllocError> {
-    let size = samples.wrapping_mul(2);
-    let mut bytes = Vec::from_slice(alloc, &EMPTY[..40])?;
-    bytes.extend_from_slice(&size.to_le_bytes())?;
-    for _ in 0..size {
+/// The head with this size of the data.
+fn head_of(size: u32) -> [u8; 44] {
+    let mut head = EMPTY;
+    head[40..44].copy_from_slice(&size.to_le_bytes());
+    head
+}
+
+/// A head and this many bytes of 0 behind it.
+fn with_zeros(alloc: Global, head: &[u8; 44], count: u32) -> Result<Vec<u8>, AllocError> {
+    let mut bytes = Vec::from_slice(alloc, head)?;
+    for _ in 0..count {
         bytes.push(0)?;
     }
     Ok(bytes)
+}
+
+/// A WAV of `samples` zero samples.
+fn silence(alloc: Global, samples: u16) -> Result<Vec<u8>, AllocError> {
+    let size = 2 * u32::from(samples);
+    with_zeros(alloc, &head_of(size), size)
 }
 
 /// Whether a run answered this, with an empty output and this report.
@@ -102,9 +113,9 @@ fn frame_count(rt: HostRuntime) -> Result<(), Fail> {
 // Two frames of a sound: bytes 4 to 7 of each are the head's.
 #[test]
 fn mono_header_bytes(rt: HostRuntime) -> Result<(), Fail> {
-    let mut bytes = silence(rt.alloc(), 2000)?;
-    for place in 44..bytes.len() {
-        bytes[place] = (place.wrapping_mul(place) % 251) as u8;
+    let mut bytes = Vec::from_slice(rt.alloc(), &head_of(4000))?;
+    for place in 0..4000u32 {
+        bytes.push((place * place % 251) as u8)?;
     }
     let left = encoded(rt.alloc(), &bytes)?;
     assert_eq!(rt; left.output.len(), 1536);
@@ -183,8 +194,9 @@ fn short_data(rt: HostRuntime) -> Result<(), Fail> {
 
 #[test]
 fn stereo_not_yet(rt: HostRuntime) -> Result<(), Fail> {
-    let mut bytes = silence(rt.alloc(), 9)?;
-    bytes[22] = 2;
+    let mut head = EMPTY;
+    head[22] = 2;
+    let bytes = with_zeros(rt.alloc(), &head, 9)?;
     let left = encoded(rt.alloc(), &bytes)?;
     assert!(rt;
         refuses(
@@ -211,8 +223,9 @@ fn every_cut_head(rt: HostRuntime) -> Result<(), Fail> {
 #[test]
 fn heads_of_other_forms(rt: HostRuntime) -> Result<(), Fail> {
     for place in 0..40usize {
-        let mut bytes = silence(rt.alloc(), 1)?;
-        bytes[place] ^= 0x40;
+        let mut head = head_of(2);
+        head[place] ^= 0x40;
+        let bytes = with_zeros(rt.alloc(), &head, 2)?;
         let left = encoded(rt.alloc(), &bytes)?;
         let is_free = matches!(place, 4..=7 | 28..=31);
         let want = if is_free {
@@ -233,8 +246,7 @@ fn data_that_are_too_long(rt: HostRuntime) -> Result<(), Fail> {
         (0x03ff_ffd5, Status::BadWav(WavKind::NotYet, 0)),
         (0xffff_ffff, Status::BadWav(WavKind::NotYet, 0)),
     ] {
-        let mut bytes = silence(rt.alloc(), 1)?;
-        bytes[40..44].copy_from_slice(&size.to_le_bytes());
+        let bytes = with_zeros(rt.alloc(), &head_of(size), 2)?;
         assert_eq!(rt; encoded(rt.alloc(), &bytes)?.status, want, "at {size}");
     }
     Ok(())
@@ -243,9 +255,7 @@ fn data_that_are_too_long(rt: HostRuntime) -> Result<(), Fail> {
 // An odd byte at the end of the data is read and passed over, and what follows the data isn't looked at.
 #[test]
 fn odd_data_and_a_rest(rt: HostRuntime) -> Result<(), Fail> {
-    let mut bytes = silence(rt.alloc(), 1281)?;
-    bytes[40..44].copy_from_slice(&2561u32.to_le_bytes());
-    bytes.extend_from_slice(&[255; 100])?;
+    let bytes = with_zeros(rt.alloc(), &head_of(2561), 2661)?;
     let left = encoded(rt.alloc(), &bytes)?;
     assert_eq!(rt; left.status, Status::Ok);
     assert_eq!(rt; left.output.len(), 768);
