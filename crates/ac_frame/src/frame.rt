@@ -90,3 +90,6 @@ pub fn plain(size: &Size, first: u8, groups: &[u8], out: &mut [u8; 3840]) -> usi
     assemble(crc1, &body[..count], out);
     count + 6
 }
+
+#[cfg(test)]
+mod tests;

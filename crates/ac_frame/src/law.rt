@@ -11,5 +11,4 @@ pub fn plain_law()
     ensures both_parts { (fscod frmsizecod words bw first : ℕ) (groups frame : List ℕ) → IsPlain fscod frmsizecod words bw first groups frame → IsRemainder (bits_of (drop 2 frame)) 0 }
     ensures no_sync { (fscod frmsizecod words bw first : ℕ) (groups frame : List ℕ) (p : IsPlain fscod frmsizecod words bw first groups frame) → p.crc2 ≢ 0x0B77 }
     ensures one { (fscod frmsizecod words bw first : ℕ) (groups f g : List ℕ) → IsSized words groups → AreBytes f → AreBytes g → IsPlain fscod frmsizecod words bw first groups f → IsPlain fscod frmsizecod words bw first groups g → f ≡ g }
-{
-}
+{}
