@@ -15,5 +15,4 @@ mod size;
 
 pub use frame::plain;
 pub use law::plain_law;
-pub use rows::Row;
 pub use size::Size;
