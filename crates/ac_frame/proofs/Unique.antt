@@ -1,12 +1,12 @@
 -- There is one plain frame of given exponents.
-use Rattle.std.proofs.Common.{◌≡◌, ◌≢◌, ◌⊎◌, inl, inr, ℕ, zero, suc, ◌+◌, ◌-◌, ◌*◌, ◌/◌, ◌^◌, ◌<◌, ◌≤◌, Bool, List, [], ◌∷◌, ◌++◌, length, take, drop, get_or, refl, ap, sym, ◌∙◌, subst, append_assoc, arith, length-append}
+use Rattle.std.proofs.Common.{◌≡◌, ◌≢◌, inl, inr, ℕ, suc, ◌+◌, ◌-◌, ◌*◌, ◌/◌, ◌^◌, ◌<◌, Bool, List, [], ◌∷◌, ◌++◌, length, take, drop, refl, ap, sym, ◌∙◌, subst, append_assoc, arith, length-append}
 use Rattle.ac_bits.specs.Bits.{bits, bits_of}
 use Rattle.ac_bits.proofs.Laws.{length-bits, length-bits_of, bits_same}
 use Rattle.ac_crc.specs.Remainder.{IsRemainder}
 use Rattle.ac_crc.proofs.Remainders.{trails, one_trailing, one_leading, last_bit_turned}
 use Rattle.ac_frame.specs.Rows.{spell}
 use Rattle.ac_frame.specs.Padding.{front_room}
-use Rattle.ac_frame.specs.Plain.{plain_rows, front_part, all_part, AreBytes, IsSized, IsPlain}
+use Rattle.ac_frame.specs.Plain.{plain_rows, front_part, all_part, AreBytes, IsPlain}
 use Rattle.ac_frame.proofs.Frames.{Made, Sized, body, before, body_split, bits_of-take, bits_of-drop, front_is, all_of, all_rows, length-body}
 
 abbrev pub Plain : Made → List ℕ → Type 0

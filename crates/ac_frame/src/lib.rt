@@ -14,5 +14,5 @@ mod rows;
 mod size;
 
 pub use frame::plain;
-pub use law::plain_law;
+pub use law::{padding_law, plain_law};
 pub use size::Size;

@@ -1,5 +1,5 @@
 use super::*;
-use crate::law::plain_law;
+use crate::law::{padding_law, plain_law};
 use ac_crc::remainder;
 
 // D45 groups of silence: 15, 17, 19, 21, 23, 24 and 24 to the end, and those of a flat list.
@@ -54,6 +54,7 @@ fn smallest_frame(rt: HostRuntime) {
     assert!(rt; out.starts_with(&SMALLEST_FRONT));
     assert!(rt; out[27..128].iter().all(|b| *b == 0));
     plain_law();
+    padding_law();
 }
 
 // The largest size, where blocks 1 to 5 have skip fields: the bytes that aren't 0.
