@@ -1,4 +1,4 @@
-ghost use Rattle.std.specs.Prelude.{◌≡◌, ℕ, ◌+◌, ◌*◌, ◌%◌, ◌/◌, ◌^◌, ◌<◌, ◌≤◌, List, [], ◌++◌, length, take, Bool};
+ghost use Rattle.std.specs.Prelude.{◌≡◌, ℕ, ◌+◌, ◌*◌, ◌%◌, ◌/◌, ◌^◌, ◌<◌, ◌≤◌, List, [], ◌++◌, length, take, drop, Bool};
 ghost use Rattle.ac_bits.specs.Bits.{bits, bits_of, Appends};
 
 use std::marker::Model;
@@ -82,13 +82,14 @@ impl BitSink {
 
     /// Writes the bits as whole bytes to the front of `out`, and says how many bytes they are.
     ///
-    /// The number of bits is a multiple of 8.
+    /// The number of bits is a multiple of 8. What stands behind these bytes stays.
     pub fn bytes(&self, out: &mut [u8; 3840]) -> usize
         requires { length self.now % 8 ≡ 0 }
         ensures count { 8 * result ≡ length self.now }
         ensures bytes { bits_of (take result out.new) ≡ self.now }
+        ensures rest { drop result out.new ≡ drop result out.old }
     {
-        *out = self.buf;
+        out[..self.full].copy_from_slice(&self.buf[..self.full]);
         self.full
     }
 }

@@ -1,10 +1,9 @@
 -- Skip fields: their rows, and how much they take.
-use Rattle.std.proofs.Common.{◌≡◌, ℕ, zero, suc, ◌+◌, ◌-◌, ◌*◌, ◌/◌, ◌<◌, ◌≤◌, min, refl, ap, ◌∙◌, arith, Bool, List, [], ◌∷◌}
-use Rattle.std.proofs.Common.{inl, inr}
+use Rattle.std.proofs.Common.{◌≢◌, inl, inr, ◌≡◌, ℕ, zero, suc, ◌+◌, ◌-◌, ◌*◌, ◌/◌, ◌<◌, ◌≤◌, min, refl, ap, ◌∙◌, arith, Bool, List, [], ◌∷◌}
 use Rattle.std.proofs.lemmas.Bool.{cases_lt}
 use Rattle.ac_bits.specs.Bits.{bits, Appends}
 use Rattle.ac_frame.specs.Rows.{row, spell}
-use Rattle.ac_frame.specs.Padding.{skip, skipl_of, skip_bits, skipped, to_skip}
+use Rattle.ac_frame.specs.Padding.{skip, skipl_of, skip_bits, skipped, to_skip, front_room}
 use Rattle.ac_frame.specs.Plain.{skip_rows, tail_rows, total_bits}
 use Rattle.ac_frame.proofs.Spelling.{one_row, row-then}
 use Rattle.std.specs.Prelude.{Some, None}
@@ -126,3 +125,47 @@ room_left words groups a b c =
     let x = to_skip words (total_bits groups) 0 in
     let few : x ≤ 20485 = omega arith in
     omega (arith, (skips_within x few).1)
+
+-- ---- the rule of the skip fields
+pub skipl_none : (n : ℕ) → skipl_of n ≡ None → n ≡ 0
+unfolding skipl_of
+skipl_none zero e = refl
+skipl_none (suc n) e = absurd (cc)
+
+pub skipl_zero : (n : ℕ) → n ≡ 0 → skipl_of n ≡ None
+unfolding skipl_of
+skipl_zero zero e = refl
+skipl_zero (suc n) e = absurd (omega arith)
+
+skipl_some : (n k : ℕ) → skipl_of n ≡ Some k → k ≡ min 511 ((n - 9 + 7) / 8)
+unfolding skipl_of
+skipl_some zero k e = absurd (cc)
+skipl_some (suc n) k e = cc
+
+pub skipl_takes : (n k : ℕ) → n ≤ 4097 → skipl_of n ≡ Some k → n ≤ 9 + 8 * k
+skipl_takes n k h e = omega (arith, skipl_some n k e)
+
+pub skipl_least : (n k j : ℕ) → skipl_of n ≡ Some k → n ≤ 9 + 8 * j → k ≤ j
+skipl_least n k j e h = omega (arith, skipl_some n k e)
+
+pub skipl_full : (n : ℕ) → 4097 ≤ n → skipl_of n ≡ Some 511
+unfolding skipl_of
+skipl_full zero h = absurd (omega arith)
+skipl_full (suc n) h = let e : min 511 ((suc n - 9 + 7) / 8) ≡ 511 = omega arith in ap Some e
+
+pub skip_order : (x block : ℕ) → block < 5 → skip x block ≢ None → skip x (block + 1) ≡ Some 511
+unfolding skip
+skip_order x block h some =
+    let n = x - 4097 * (5 - block) in
+    let more : n ≢ 0 = λ e. some (skipl_zero n e) in
+    skipl_full (x - 4097 * (5 - (block + 1))) (omega arith)
+
+first_skip : (x : ℕ) → skip_bits (skip x 1) ≡ field (x - 16388)
+unfolding skip field
+first_skip x = refl
+
+pub front_kept : (words groups : ℕ) → 64 ≤ words → words ≤ 1920 → groups ≤ 21 → 65 + 35 + (12 + 7 * groups) + 10 + skip_bits (skip (to_skip words (total_bits groups) 0) 1) ≤ front_room words
+front_kept words groups a b c =
+    let x = to_skip words (total_bits groups) 0 in
+    let few : x - 16388 ≤ 4097 = omega arith in
+    omega (arith, first_skip x, (field_least (x - 16388) few).1)

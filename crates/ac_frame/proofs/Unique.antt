@@ -1,12 +1,12 @@
 -- There is one plain frame of given exponents.
-use Rattle.std.proofs.Common.{◌≡◌, ◌≢◌, ◌⊎◌, inl, inr, ℕ, zero, suc, ◌+◌, ◌-◌, ◌*◌, ◌/◌, ◌^◌, ◌<◌, ◌≤◌, Bool, List, [], ◌∷◌, ◌++◌, length, take, drop, get_or, refl, ap, sym, ◌∙◌, subst, append_assoc, arith, length-append}
+use Rattle.std.proofs.Common.{◌≡◌, ◌≢◌, inl, inr, ℕ, suc, ◌+◌, ◌-◌, ◌*◌, ◌/◌, ◌^◌, ◌<◌, Bool, List, [], ◌∷◌, ◌++◌, length, take, drop, refl, ap, sym, ◌∙◌, subst, append_assoc, arith, length-append}
 use Rattle.ac_bits.specs.Bits.{bits, bits_of}
 use Rattle.ac_bits.proofs.Laws.{length-bits, length-bits_of, bits_same}
 use Rattle.ac_crc.specs.Remainder.{IsRemainder}
 use Rattle.ac_crc.proofs.Remainders.{trails, one_trailing, one_leading, last_bit_turned}
 use Rattle.ac_frame.specs.Rows.{spell}
 use Rattle.ac_frame.specs.Padding.{front_room}
-use Rattle.ac_frame.specs.Plain.{plain_rows, front_part, all_part, AreBytes, IsSized, IsPlain}
+use Rattle.ac_frame.specs.Plain.{plain_rows, front_part, all_part, AreBytes, IsPlain}
 use Rattle.ac_frame.proofs.Frames.{Made, Sized, body, before, body_split, bits_of-take, bits_of-drop, front_is, all_of, all_rows, length-body}
 
 abbrev pub Plain : Made → List ℕ → Type 0
@@ -63,13 +63,13 @@ same_last a f g p q s =
     let e = same_crc1 a f g p q s in
     let Same : Type 0 = (p.crcrsv ≡ q.crcrsv) × (p.crc2 ≡ q.crc2) in
     elim p.reserved as (λ _. Same) [
-      inl x ↦ elim q.reserved as (λ _. Same) [
-        inl y ↦ (x.0 ∙ sym y.0, one_last (bits q.crc1 16 ++ spell (body a 0)) p.crc2 q.crc2 p.fit.1 q.fit.1 (all_at a f p q.crc1 0 e x.0) (all_at a g q q.crc1 0 refl y.0))
-      | inr y ↦ absurd (x.1 (one_last (bits q.crc1 16 ++ spell (body a 0)) p.crc2 0x0B77 p.fit.1 sync_fits (all_at a f p q.crc1 0 e x.0) (sync_at a q.crc1 q.crc1 refl y.1)))
+      | inl x ↦ elim q.reserved as (λ _. Same) [
+        | inl y ↦ (x.0 ∙ sym y.0, one_last (bits q.crc1 16 ++ spell (body a 0)) p.crc2 q.crc2 p.fit.1 q.fit.1 (all_at a f p q.crc1 0 e x.0) (all_at a g q q.crc1 0 refl y.0))
+        | inr y ↦ absurd (x.1 (one_last (bits q.crc1 16 ++ spell (body a 0)) p.crc2 0x0B77 p.fit.1 sync_fits (all_at a f p q.crc1 0 e x.0) (sync_at a q.crc1 q.crc1 refl y.1)))
       ]
-    | inr x ↦ elim q.reserved as (λ _. Same) [
-        inl y ↦ absurd (y.1 (one_last (bits q.crc1 16 ++ spell (body a 0)) q.crc2 0x0B77 q.fit.1 sync_fits (all_at a g q q.crc1 0 refl y.0) (sync_at a p.crc1 q.crc1 e x.1)))
-      | inr y ↦ (x.0 ∙ sym y.0, one_last (bits q.crc1 16 ++ spell (body a 1)) p.crc2 q.crc2 p.fit.1 q.fit.1 (all_at a f p q.crc1 1 e x.0) (all_at a g q q.crc1 1 refl y.0))
+      | inr x ↦ elim q.reserved as (λ _. Same) [
+        | inl y ↦ absurd (y.1 (one_last (bits q.crc1 16 ++ spell (body a 0)) q.crc2 0x0B77 q.fit.1 sync_fits (all_at a g q q.crc1 0 refl y.0) (sync_at a p.crc1 q.crc1 e x.1)))
+        | inr y ↦ (x.0 ∙ sym y.0, one_last (bits q.crc1 16 ++ spell (body a 1)) p.crc2 q.crc2 p.fit.1 q.fit.1 (all_at a f p q.crc1 1 e x.0) (all_at a g q q.crc1 1 refl y.0))
       ]
     ]
 
@@ -93,8 +93,8 @@ turned a crc1 crc2 h z w =
 pub no_sync : (a : Made) (frame : List ℕ) (p : Plain a frame) → p.crc2 ≢ 0x0B77
 no_sync a frame p =
     elim p.reserved as (λ _. p.crc2 ≢ 0x0B77) [
-      inl x ↦ x.1
-    | inr x ↦ λ e. absurd (omega (arith, e, turned a p.crc1 p.crc2 p.fit.1 (sync_at a p.crc1 p.crc1 refl x.1) (all_at a frame p p.crc1 1 refl x.0)))
+      | inl x ↦ x.1
+      | inr x ↦ λ e. absurd (omega (arith, e, turned a p.crc1 p.crc2 p.fit.1 (sync_at a p.crc1 p.crc1 refl x.1) (all_at a frame p p.crc1 1 refl x.0)))
     ]
 
 pub frame_size : (a : Made) (frame : List ℕ) → Sized a → Plain a frame → length frame ≡ 2 * a.words

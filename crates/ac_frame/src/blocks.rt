@@ -5,7 +5,7 @@ ghost use Rattle.ac_frame.specs.Plain.{strategy_rows, allocation_rows, reuse_row
 ghost use Rattle.ac_frame.specs.Rows.{Fit, spell, widths};
 
 use super::padding::skipl;
-use super::rows::{Row, put_groups, put_rows, put_zeros};
+use super::rows::{Row, field, put_groups, put_rows, put_zeros};
 use ac_bits::BitSink;
 
 /// The rows of block 0 up to the exponent of bin 0 (A/52 5.3.3).
@@ -18,20 +18,14 @@ fn strategy(bw: u8, first: u8) -> [Row; 8]
     ensures len { widths result ≡ 17 }
 {
     [
-        Row { value: 0, width: 1 },
-        Row { value: 0, width: 1 },
-        Row { value: 0, width: 1 },
-        Row { value: 1, width: 1 },
-        Row { value: 0, width: 1 },
-        Row { value: 3, width: 2 },
-        Row {
-            value: bw as u16,
-            width: 6,
-        },
-        Row {
-            value: first as u16,
-            width: 4,
-        },
+        field(0, 1), // blksw
+        field(0, 1), // dithflag
+        field(0, 1), // dynrnge
+        field(1, 1), // cplstre
+        field(0, 1), // cplinu
+        field(3, 2), // chexpstr: D45
+        field(bw as u16, 6), // chbwcod
+        field(first as u16, 4), // exps
     ]
 }
 
@@ -43,19 +37,19 @@ fn allocation() -> [Row; 13]
     ensures len { widths result ≡ 30 }
 {
     [
-        Row { value: 0, width: 2 },
-        Row { value: 1, width: 1 },
-        Row { value: 2, width: 2 },
-        Row { value: 1, width: 2 },
-        Row { value: 1, width: 2 },
-        Row { value: 3, width: 2 },
-        Row { value: 7, width: 3 },
-        Row { value: 1, width: 1 },
-        Row { value: 0, width: 6 },
-        Row { value: 0, width: 4 },
-        Row { value: 4, width: 3 },
-        Row { value: 0, width: 1 },
-        Row { value: 0, width: 1 },
+        field(0, 2), // gainrng
+        field(1, 1), // baie
+        field(2, 2), // sdcycod
+        field(1, 2), // fdcycod
+        field(1, 2), // sgaincod
+        field(3, 2), // dbpbcod
+        field(7, 3), // floorcod
+        field(1, 1), // snroffste
+        field(0, 6), // csnroffst
+        field(0, 4), // fsnroffst
+        field(4, 3), // fgaincod
+        field(0, 1), // deltbaie
+        field(0, 1), // skiple
     ]
 }
 
@@ -67,14 +61,14 @@ fn reuse() -> [Row; 8]
     ensures len { widths result ≡ 9 }
 {
     [
-        Row { value: 0, width: 1 },
-        Row { value: 0, width: 1 },
-        Row { value: 0, width: 1 },
-        Row { value: 0, width: 1 },
-        Row { value: 0, width: 2 },
-        Row { value: 0, width: 1 },
-        Row { value: 0, width: 1 },
-        Row { value: 0, width: 1 },
+        field(0, 1), // blksw
+        field(0, 1), // dithflag
+        field(0, 1), // dynrnge
+        field(0, 1), // cplstre
+        field(0, 2), // chexpstr: reuse
+        field(0, 1), // baie
+        field(0, 1), // snroffste
+        field(0, 1), // deltbaie
     ]
 }
 

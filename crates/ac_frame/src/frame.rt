@@ -69,7 +69,8 @@ fn assemble(crc1: u16, body: &[u8], out: &mut [u8; 3840]) -> u16
 /// Writes the plain frame of these exponents to the front of `out`, and answers its bytes, 2·`words`.
 ///
 /// `first` is the exponent of bin 0, at most 15. `groups` are the D45 groups of the bins up to
-/// the end of the bandwidth, each below 128. What `out` holds behind the frame stays.
+/// the end of the bandwidth, each below 128. crcrsv is 0, or 1 where crc2 would else be the
+/// syncword (A/52 5.4.5.1). What `out` holds behind the frame stays.
 pub fn plain(size: &Size, first: u8, groups: &[u8], out: &mut [u8; 3840]) -> usize
     requires first { first ≤ 15 }
     requires count { length groups.now ≡ d45_groups (end_bin size.now.bw) }
@@ -90,3 +91,6 @@ pub fn plain(size: &Size, first: u8, groups: &[u8], out: &mut [u8; 3840]) -> usi
     assemble(crc1, &body[..count], out);
     count + 6
 }
+
+#[cfg(test)]
+mod tests;

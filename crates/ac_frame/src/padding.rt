@@ -35,3 +35,6 @@ pub fn skipl(x: u32, block: u32) -> Option<u16>
     let least = (here.saturating_sub(9) + 7) / 8;
     Some(least.min(511) as u16)
 }
+
+#[cfg(test)]
+mod tests;

@@ -13,6 +13,13 @@ pub struct Row {
     pub width: u8,
 }
 
+/// The row of a field with this number and width.
+pub fn field(value: u16, width: u8) -> Row
+    ensures { result ≡ record { value = value; width = width } }
+{
+    Row { value, width }
+}
+
 /// Appends rows in order.
 pub fn put_rows(sink: &mut BitSink, rows: &[Row])
     requires fit { Fit rows.now }
