@@ -51,6 +51,7 @@ fn bad_exponent_at_zero(rt: HostRuntime) {
     let span = widest(&rt);
     assert!(rt; span.lead == Lead::Free);
     let mut spelled = Spelled::new(0);
+    assert!(rt; spelled.is_empty());
     spelled.push(12);
     for _place in 0..83u8 {
         assert!(rt; spelled.len() < 84);
