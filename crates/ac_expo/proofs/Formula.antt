@@ -1,15 +1,14 @@
 -- The formula gives the greatest list, which is one.
-use Rattle.std.proofs.Common.{◌≡◌, ℕ, suc, zero, ◌+◌, ◌*◌, ◌<◌, ◌≤◌, ◌-◌, ◌⊎◌, min, Bool, true, false, List, [], slice_index, slice_index_or, refl, sym, ap, ◌∙◌, inl, inr, ⊎_elim, arith, subst}
+use Rattle.std.proofs.Common.{◌≡◌, ℕ, suc, zero, ◌+◌, ◌*◌, ◌<◌, ◌≤◌, ◌-◌, min, Bool, true, false, List, [], slice_index, slice_index_or, refl, sym, ap, ◌∙◌, inl, inr, arith, subst}
 use Rattle.std.proofs.lemmas.Bool.{cases_eq, cases_lt}
 use Rattle.ac_base.specs.declared.spans.Span.{Span}
-use Rattle.ac_expo.specs.Spans.{IsIn, IsKind, is_coupling}
-use Rattle.ac_base.specs.Shape.{IsSpan}
+use Rattle.ac_expo.specs.Spans.{IsIn, is_coupling}
 use Rattle.ac_expo.specs.Steps.{step_of, last_step}
 use Rattle.ac_expo.specs.Least.{distance, least, spread}
-use Rattle.ac_expo.specs.Greatest.{IsSpellable, IsUnder, IsGreatest, IsByFormula, FormulaIsGreatest, GreatestIsOne, GreatestExists, bin_least, step_least, raw_least, capped, step_exponent, exponent_of}
-use Rattle.ac_expo.proofs.Walk.{range, IsWalk, walk, rises, origin, span_kind}
-use Rattle.ac_expo.proofs.Spread.{least_le, least_ge, least_same, near_up, near_down, spread_within}
-use Rattle.ac_expo.proofs.Minima.{bin_le, bin_ge, bin_small, step_le, step_ge, step_small, step_least-same}
+use Rattle.ac_expo.specs.Greatest.{IsSpellable, IsUnder, FormulaIsGreatest, GreatestIsOne, GreatestExists, bin_least, step_least, raw_least, capped, step_exponent, exponent_of}
+use Rattle.ac_expo.proofs.Walk.{range, IsWalk, walk, origin, span_kind}
+use Rattle.ac_expo.proofs.Spread.{least_ge, least_same, near_up, near_down, spread_within}
+use Rattle.ac_expo.proofs.Minima.{bin_le, bin_ge, step_le, step_ge, step_small, step_least-same}
 use Rattle.std.proofs.lemmas.List.{get_or-take}
 use Rattle.std.proofs.Common.{take, map}
 use Rattle.std.specs.List.{range_with_len}

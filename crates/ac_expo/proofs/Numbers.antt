@@ -1,7 +1,6 @@
 -- The numbers from 0 to 3071 and the words.
-use Rattle.std.proofs.Common.{◌≡◌, ℕ, zero, suc, ◌+◌, ◌-◌, ◌*◌, ◌/◌, ◌%◌, ◌<◌, ◌≤◌, List, [], ◌∷◌, length, slice_index, arith, refl, ap, sym, ◌∙◌}
-use Rattle.std.proofs.lemmas.List.{same_lists}
-use Rattle.ac_expo.specs.Words.{IsWord, word_list, EachNumberIsOneWord, EachWordHasANumber}
+use Rattle.std.proofs.Common.{◌≡◌, ℕ, ◌+◌, ◌-◌, ◌*◌, ◌/◌, ◌%◌, ◌<◌, ◌≤◌, [], ◌∷◌, slice_index, arith, ap}
+use Rattle.ac_expo.specs.Words.{word_list, EachNumberIsOneWord, EachWordHasANumber}
 
 pub one : EachNumberIsOneWord
 one i j a b e =

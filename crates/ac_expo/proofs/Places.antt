@@ -1,15 +1,15 @@
 -- The first bins of steps, and the exponents of steps of a list that can be spelled.
-use Rattle.std.proofs.Common.{◌≡◌, ℕ, zero, suc, ◌+◌, ◌-◌, ◌*◌, ◌/◌, ◌<◌, ◌≤◌, ◌⊎◌, min, Bool, true, false, List, slice_index, inl, inr, arith, refl, ap, sym, ◌∙◌, subst}
-use Rattle.std.specs.Prelude.{nat_lt, if◌then◌else◌}
+use Rattle.std.proofs.Common.{◌≡◌, ℕ, ◌+◌, ◌-◌, ◌*◌, ◌/◌, ◌<◌, ◌≤◌, ◌⊎◌, min, Bool, true, false, List, slice_index, inl, inr, arith, refl, ap, sym, ◌∙◌, subst}
+use Rattle.std.specs.Prelude.{if◌then◌else◌}
 use Rattle.std.proofs.lemmas.Nat.{le-div}
-use Rattle.std.proofs.lemmas.Bool.{cases_eq, cases_lt, lt-ltb, le-ltb, eq-eqb, ne_eqb}
+use Rattle.std.proofs.lemmas.Bool.{cases_eq, cases_lt, lt-ltb, le-ltb, ne_eqb}
 use Rattle.ac_base.specs.declared.spans.Lead.{Lead}
 use Rattle.ac_base.specs.declared.spans.Lead.TheVariants.{Free, Coupled, Coupling, Low}
 use Rattle.ac_base.specs.declared.spans.Span.{Span}
 use Rattle.ac_expo.specs.Spans.{IsIn, IsKind, is_coupling}
 use Rattle.ac_base.specs.Shape.{IsSpan}
 use Rattle.ac_expo.proofs.Walk.{range, IsRange}
-use Rattle.ac_expo.specs.Steps.{width, ahead, step_of, bin_of, groups_of, last_step}
+use Rattle.ac_expo.specs.Steps.{width, ahead, step_of, bin_of, last_step}
 use Rattle.ac_expo.specs.Greatest.{IsSpellable}
 use Rattle.ac_expo.specs.Groups.{first_of, reference, past, at_step}
 use Rattle.ac_expo.proofs.Walk.{IsWalk, IsOneOf, walk, rises, origin, span_kind, start_before_end}

@@ -1,15 +1,14 @@
 -- What `group` spells is what `expand` reads.
-use Rattle.std.proofs.Common.{◌≡◌, ℕ, zero, suc, ◌+◌, ◌-◌, ◌*◌, ◌/◌, ◌%◌, ◌<◌, ◌≤◌, ◌⊎◌, Bool, true, false, List, [], ◌∷◌, ◌++◌, length, slice_index, inl, inr, arith, refl, ap, sym, ◌∙◌, subst}
-use Rattle.std.proofs.lemmas.Bool.{cases_eq, cases_lt, eq-eqb, ne_eqb}
+use Rattle.std.proofs.Common.{◌≡◌, ℕ, zero, suc, ◌+◌, ◌*◌, ◌/◌, ◌%◌, ◌<◌, ◌≤◌, ◌⊎◌, Bool, true, false, List, [], ◌∷◌, ◌++◌, length, slice_index, inl, inr, arith, refl, ap, sym, ◌∙◌, subst}
+use Rattle.std.proofs.lemmas.Bool.{cases_eq, eq-eqb, ne_eqb}
 use Rattle.std.proofs.lemmas.List.{get_or_append_left, get_or_push, length-append}
 use Rattle.ac_base.specs.declared.spans.Lead.{Lead}
 use Rattle.ac_base.specs.declared.spans.Span.{Span}
-use Rattle.ac_expo.specs.Spans.{IsIn, IsKind, is_coupling}
+use Rattle.ac_expo.specs.Spans.{is_coupling}
 use Rattle.ac_base.specs.Shape.{IsSpan}
-use Rattle.ac_expo.specs.Steps.{step_of, bin_of, groups_of, last_step}
-use Rattle.ac_expo.specs.Greatest.{IsSpellable}
+use Rattle.ac_expo.specs.Steps.{step_of, groups_of, last_step}
 use Rattle.ac_expo.specs.Spelling.{Spelling}
-use Rattle.ac_expo.specs.Groups.{first_of, reference, at_step, mapped, group_of, groups_below, spelled_of, mapped_of, sum_to, spelled_exponent, IsOutside, IsOfGroup, IsRefused, NoneRefused, IsExpanded, ExpandUndoesGroup}
+use Rattle.ac_expo.specs.Groups.{reference, at_step, mapped, group_of, groups_below, spelled_of, mapped_of, sum_to, ExpandUndoesGroup}
 use Rattle.ac_expo.proofs.Places.{IsPlaced, placed, near_steps, at_small, at_first, at_first_is, at_step_of, step_some}
 use Rattle.ac_expo.proofs.Walk.{range, origin}
 

@@ -4,7 +4,7 @@ use Rattle.std.specs.Int.Count.{count_leading_zeros}
 use Rattle.std.proofs.lemmas.Nat.{leading_length, pow_pos, pow-add, mul-le}
 use Rattle.std.specs.Prelude.{nat_lt}
 use Rattle.std.proofs.lemmas.Bool.{cases_lt, cases_eq, lt-ltb, le-ltb}
-use Rattle.std.proofs.Common.{unsigned_abs, ℤ}
+use Rattle.std.proofs.Common.{unsigned_abs}
 use Rattle.ac_expo.specs.Raw.{raw_below, raw_of, IsRaw, RawIsGreatest}
 use Rattle.std.proofs.Math.Nat.{pow-le-pow_right}
 

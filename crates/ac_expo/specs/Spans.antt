@@ -1,4 +1,4 @@
--- The bins of a span, and the kinds of exponents that its channel takes (A/52 5.4.3.22 to 5.4.3.24).
+-- The bins of a span, and the kinds of exponents that its channel takes (A/52 5.4.3.21 to 5.4.3.23, 7.1.3).
 use Rattle.std.specs.Prelude.{ℕ, ◌<◌, ◌≤◌, Bool, true, false}
 use Rattle.ac_base.specs.declared.spans.Lead.{Lead}
 use Rattle.ac_base.specs.declared.spans.Lead.TheVariants.{Free, Coupled, Coupling, Low}

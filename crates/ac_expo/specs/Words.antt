@@ -1,6 +1,6 @@
 -- Strategy words: the exponent strategy codes of a channel in the six blocks of a frame (A/52 5.4.3.21 to 5.4.3.23).
 -- A code is 0 for reuse, or a kind.
-use Rattle.std.specs.Prelude.{◌≡◌, ℕ, zero, suc, ◌+◌, ◌-◌, ◌*◌, ◌/◌, ◌%◌, ◌<◌, ◌≤◌, ◌==◌, if◌then◌else◌, List, [], ◌∷◌, ◌++◌, length, slice_index}
+use Rattle.std.specs.Prelude.{◌≡◌, ℕ, zero, suc, ◌+◌, ◌-◌, ◌/◌, ◌%◌, ◌<◌, ◌≤◌, ◌==◌, if◌then◌else◌, List, [], ◌∷◌, ◌++◌, length, slice_index}
 use Rattle.ac_expo.specs.declared.run.Run.{Run}
 use Rattle.ac_expo.specs.declared.word.Word.TheInside.{Inside}
 

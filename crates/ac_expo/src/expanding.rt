@@ -18,6 +18,9 @@ pub struct BadExponent {
     pub place: u8,
 }
 
+/// The group of three differences of 2.
+const GREATEST_GROUP: u8 = 124;
+
 /// A difference plus 2, from its group.
 #[tactic(auto, unfolding(crate::specs::Groups::mapped_of))]
 fn mapped(spelled: &Spelled, i: usize) -> u8
@@ -77,7 +80,7 @@ fn is_refused(kind: u8, span: &Span, spelled: &Spelled, sums: &[u16; 256], place
     requires sums { (g : ℕ) → g ≤ 3 * length spelled.now.groups → slice_index sums.now g ≡ sum_to span.now.lead spelled.now g }
     ensures { IsTrue result ↔ IsRefused kind span.now spelled.now place }
 {
-    if spelled.group_at(place) > 124 {
+    if spelled.group_at(place) > GREATEST_GROUP {
         return true;
     }
     let last = step(kind, span, usize::from(span.end) - 1);

@@ -1,5 +1,5 @@
 //! Exponents as they are sent: a first exponent and groups of three differences.
-ghost use Rattle.std.specs.Prelude.{◌≡◌, ◌≤◌, ◌<◌, ◌+◌, ◌++◌, ◌∷◌, ℕ, List, [], length, slice_index};
+ghost use Rattle.std.specs.Prelude.{◌↔◌, IsTrue, ◌≡◌, ◌≤◌, ◌<◌, ◌+◌, ◌++◌, ◌∷◌, ℕ, List, [], length, slice_index};
 
 use std::marker::Model;
 
@@ -53,6 +53,13 @@ impl Spelled {
         ensures bound { result ≤ 84 }
     {
         self.count
+    }
+
+    /// Whether there is no group.
+    pub fn is_empty(&self) -> bool
+        ensures { IsTrue result ↔ (self.now.groups ≡ []) }
+    {
+        self.count == 0
     }
 
     /// The group at a place.

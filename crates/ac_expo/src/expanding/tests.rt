@@ -1,3 +1,5 @@
+ghost use Rattle.ac_base.specs.Shape.{IsSpan};
+
 use super::*;
 use crate::steps::groups;
 use ac_base::Shape;
@@ -31,7 +33,8 @@ fn refused_groups(rt: HostRuntime) {
             assert!(rt; spelled.len() < 84);
             spelled.push(group);
         }
-        while spelled.len() < 84 {
+        for _place in 0..80u8 {
+            assert!(rt; spelled.len() < 84);
             spelled.push(62);
         }
         assert!(rt; spelled.len() == groups(1, &span) && spelled.first() <= 15);
@@ -48,8 +51,10 @@ fn bad_exponent_at_zero(rt: HostRuntime) {
     let span = widest(&rt);
     assert!(rt; span.lead == Lead::Free);
     let mut spelled = Spelled::new(0);
+    assert!(rt; spelled.is_empty());
     spelled.push(12);
-    while spelled.len() < 84 {
+    for _place in 0..83u8 {
+        assert!(rt; spelled.len() < 84);
         spelled.push(62);
     }
     assert!(rt; spelled.len() == groups(1, &span) && spelled.first() <= 15);

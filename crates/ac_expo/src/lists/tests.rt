@@ -1,3 +1,5 @@
+ghost use Rattle.std.specs.Prelude.{◌≡◌, ◌≤◌, ◌<◌};
+ghost use Rattle.ac_base.specs.Shape.{IsSpan};
 ghost use Rattle.ac_expo.specs.Spans.{greatest_kind};
 
 use super::*;

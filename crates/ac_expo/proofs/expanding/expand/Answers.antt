@@ -1,7 +1,6 @@
-use Rattle.std.proofs.Common.{◌≡◌, ◌≤◌, ◌<◌, ◌+◌, ◌-◌, ◌*◌, ℕ, length, slice_index, arith, ap, sym, ◌∙◌, refl}
-use Rattle.ac_expo.specs.Spans.{IsIn}
-use Rattle.ac_expo.specs.Steps.{step_of, last_step}
-use Rattle.ac_expo.specs.Groups.{sum_to, NoneRefused, IsExpanded}
+use Rattle.std.proofs.Common.{◌-◌, ◌*◌, arith, ap, ◌∙◌}
+use Rattle.ac_expo.specs.Steps.{step_of}
+use Rattle.ac_expo.specs.Groups.{NoneRefused}
 use Rattle.ac_expo.proofs.Walk.{walk}
 use Rattle.ac_expo.proofs.Refusals.{within_all, expanded_spellable}
 use Rattle.ac_expo.proofs.expanding.expand.Goals as goal

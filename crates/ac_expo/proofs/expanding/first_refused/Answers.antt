@@ -1,6 +1,5 @@
-use Rattle.std.proofs.Common.{◌≡◌, ◌<◌, ℕ, length, arith, below_more, false, true, sym, subst}
-use Rattle.std.specs.Prelude.{IsTrue, Bool}
-use Rattle.ac_expo.specs.Groups.{IsRefused}
+use Rattle.std.proofs.Common.{arith, below_more}
+use Rattle.std.specs.Prelude.{IsTrue}
 use Rattle.ac_expo.proofs.expanding.first_refused.Goals as goal
 
 pub loop-place-preserved : goal.loop-place-preserved

@@ -1,5 +1,4 @@
-use Rattle.std.proofs.Common.{◌≡◌, ◌+◌, ◌≤◌, ◌<◌, ◌^◌, Fits, w8, arith, rules}
-use Rattle.std.proofs.lemmas.Grind.{common_steps}
+use Rattle.std.proofs.Common.{◌+◌, ◌<◌, arith, rules}
 use Rattle.ac_expo.proofs.Places.{placed, near_steps, at_small}
 use Rattle.ac_expo.proofs.grouping.difference.Goals as goal
 

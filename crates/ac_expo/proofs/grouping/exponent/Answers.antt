@@ -1,5 +1,4 @@
-use Rattle.std.proofs.Common.{◌≡◌, ◌<◌, ℕ, List, slice_index, arith, ap, sym, ◌∙◌, subst}
-use Rattle.ac_base.specs.declared.spans.Span.{Span}
+use Rattle.std.proofs.Common.{◌≡◌, ◌<◌, slice_index, arith, ap, sym, ◌∙◌}
 use Rattle.ac_expo.specs.Steps.{bin_of}
 use Rattle.ac_expo.specs.Groups.{reference, at_step}
 use Rattle.ac_expo.proofs.Places.{at_first, at_bin, at_past}

@@ -1,4 +1,4 @@
-use Rattle.std.proofs.Common.{◌≡◌, ◌≤◌, ◌<◌, ◌+◌, ◌++◌, ◌∷◌, ℕ, List, [], length, slice_index, arith, ap, ap₂, sym, ◌∙◌, subst}
+use Rattle.std.proofs.Common.{◌≡◌, ◌++◌, ◌∷◌, ℕ, List, [], length, slice_index, arith, ap, ap₂, sym, ◌∙◌}
 use Rattle.ac_expo.specs.Steps.{groups_of}
 use Rattle.ac_expo.specs.Spelling.{Spelling}
 use Rattle.ac_expo.specs.Groups.{first_of, groups_below, group_of, spelled_of}

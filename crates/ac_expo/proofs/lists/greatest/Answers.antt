@@ -1,6 +1,5 @@
-use Rattle.std.proofs.Common.{◌≡◌, ℕ, ◌+◌, ◌-◌, ◌*◌, ◌<◌, ◌≤◌, length, take, drop, slice_index, arith, ap, sym, ◌∙◌, subst}
-use Rattle.std.proofs.lemmas.Bool.{cases_lt}
-use Rattle.std.proofs.lemmas.List.{get_or-take, get_or_past, length-take-le, get_or_append_left}
+use Rattle.std.proofs.Common.{◌≡◌, ◌+◌, ◌-◌, ◌*◌, ◌≤◌, length, take, drop, slice_index, arith, ap, ◌∙◌}
+use Rattle.std.proofs.lemmas.List.{length-take-le, get_or_append_left}
 use Rattle.ac_expo.specs.Steps.{step_of, last_step}
 use Rattle.ac_expo.specs.Least.{spread}
 use Rattle.ac_expo.proofs.Walk.{walk}

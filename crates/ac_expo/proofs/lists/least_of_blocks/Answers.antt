@@ -1,4 +1,4 @@
-use Rattle.std.proofs.Common.{◌≡◌, ℕ, ◌-◌, ◌+◌, ◌<◌, min, [], length, slice_index, slice_index_or, arith, ◌∙◌, sym, ap}
+use Rattle.std.proofs.Common.{◌≡◌, ◌-◌, ◌+◌, min, [], slice_index, slice_index_or, arith, ◌∙◌, sym, ap}
 use Rattle.std.proofs.lemmas.List.{get_or-replicate}
 use Rattle.ac_expo.specs.Greatest.{bin_least}
 use Rattle.ac_expo.proofs.Minima.{bin_none, bin_more}

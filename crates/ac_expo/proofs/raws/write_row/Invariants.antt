@@ -1,4 +1,4 @@
-use Rattle.std.proofs.Common.{◌≡◌, ℕ, ◌<◌, ◌≤◌, ℤ, pos, slice_index, slice_index_or}
+use Rattle.std.proofs.Common.{◌≡◌, ℕ, ◌<◌, ◌≤◌, pos, slice_index, slice_index_or}
 use Rattle.ac_expo.specs.Raw.{raw_of}
 use Rattle.ac_expo.proofs.raws.write_row.Given as goal
 

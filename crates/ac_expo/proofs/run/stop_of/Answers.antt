@@ -1,5 +1,5 @@
-use Rattle.std.proofs.Common.{◌≡◌, ℕ, zero, suc, ◌+◌, ◌-◌, ◌≤◌, List, slice_index, arith, ap, sym, ◌∙◌, refl}
-use Rattle.std.proofs.lemmas.Bool.{eq-eqb, ne_eqb}
+use Rattle.std.proofs.Common.{◌≡◌, ℕ, zero, suc, ◌+◌, ◌-◌, List, slice_index, arith, ap, sym, ◌∙◌, refl}
+use Rattle.std.proofs.lemmas.Bool.{ne_eqb}
 use Rattle.ac_expo.specs.Words.{stop}
 use Rattle.ac_expo.proofs.run.stop_of.Goals as goal
 

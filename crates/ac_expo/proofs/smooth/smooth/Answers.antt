@@ -1,4 +1,3 @@
-use Rattle.std.proofs.Common.{arith}
 use Rattle.ac_expo.proofs.Spread.{downward-spread}
 use Rattle.ac_expo.proofs.smooth.smooth.Goals as goal
 

@@ -1,5 +1,5 @@
-use Rattle.std.proofs.Common.{◌≡◌, ◌≤◌, arith}
-use Rattle.ac_expo.specs.Steps.{step_of, last_step}
+use Rattle.std.proofs.Common.{◌≡◌, arith}
+use Rattle.ac_expo.specs.Steps.{step_of}
 use Rattle.ac_expo.proofs.Walk.{range, walk, start_before_end}
 use Rattle.ac_expo.proofs.steps.step.Goals as goal
 
