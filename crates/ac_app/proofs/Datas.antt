@@ -1,11 +1,11 @@
 -- From the head and the bytes behind it to the data.
-use Rattle.std.proofs.Common.{◌≡◌, ℕ, ◌+◌, ◌-◌, ◌≤◌, ◌<◌, List, length, take, drop, Option, Some, Result, Ok, Err, refl, ap, sym, subst, ◌∙◌, arith, length-drop, inl, inr}
+use Rattle.std.proofs.Common.{ℕ, ◌+◌, List, take, drop, Option, Some, Result, Ok, Err, ap, ◌∙◌, arith, length-drop, inr}
 use Rattle.std.specs.Prelude.{MatchResult}
 use Rattle.std.proofs.lemmas.List.{drop-drop}
 use Rattle.ac_app.specs.declared.status.WavKind.TheVariants.{Short, NotYet}
 use Rattle.ac_app.specs.declared.wav.WavFault.{WavFault}
 use Rattle.ac_app.specs.declared.wav.WavFault.TheVariants.{Bad, ReadFault, NoMemory}
-use Rattle.ac_app.specs.Head.{data_size, data_of, behind, HeadRead, HasRead, IsStopped, Gathered, IsUngathered}
+use Rattle.ac_app.specs.Head.{HeadRead, HasRead, IsStopped, Gathered, IsUngathered}
 
 whole_read : (bytes : List ℕ) (size : ℕ) (mid left_now : Option (List ℕ)) (taken : List ℕ) → HeadRead bytes size mid → Gathered (drop 44 bytes) size taken left_now → HasRead bytes taken left_now
 whole_read bytes size mid left_now taken h m = record {

@@ -1,16 +1,15 @@
 -- How a run ends.
-use Rattle.std.proofs.Common.{◌≡◌, ◌⊎◌, ℕ, ◌+◌, ◌-◌, ◌^◌, ◌≤◌, ◌<◌, min, Bool, true, false, List, ◌++◌, take, length, Option, Some, refl, ap, sym, subst, ◌∙◌, arith, inl, inr}
+use Rattle.std.proofs.Common.{◌≡◌, ℕ, ◌≤◌, Bool, true, false, List, ◌++◌, length, Option, Some, refl, ap, sym, subst, ◌∙◌, arith, inl, inr}
 use Rattle.ac_words.specs.Grammar.{Text, InGrammar}
-use Rattle.ac_io.specs.Outside.{Rose}
 use Rattle.ac_app.specs.declared.status.WavKind.{WavKind}
 use Rattle.ac_app.specs.declared.status.WavKind.TheVariants.{Short, NotYet}
 use Rattle.ac_app.specs.declared.status.Status.{Status}
 use Rattle.ac_app.specs.declared.status.Status.TheVariants as statuses
-use Rattle.ac_app.specs.Head.{IsPlainHead, IsPlainWav, IsCut, Refuses, data_of, behind, data_size}
+use Rattle.ac_app.specs.Head.{IsPlainHead, IsPlainWav, IsCut, Refuses, data_of}
 use Rattle.ac_app.specs.Lines.{status_line}
 use Rattle.ac_app.specs.Stream.{frame_lines}
-use Rattle.ac_app.specs.World.{Held, Holds, Frames, OutputFailed, ReportFailed}
-use Rattle.ac_app.specs.Run.{frames_of, Broke, StreamLeaves, AsksEncode, EncodeTakes, EncodeGives, JobTakes, JobGives, Tail, answer_of, RunGives, IsDone}
+use Rattle.ac_app.specs.World.{Held}
+use Rattle.ac_app.specs.Run.{frames_of, Broke, JobTakes, JobGives, Tail, answer_of, RunGives, IsDone}
 
 -- ---- refusals
 

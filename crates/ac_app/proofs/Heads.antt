@@ -1,10 +1,10 @@
 -- A head is judged by its first 44 bytes alone.
-use Rattle.std.proofs.Common.{◌≡◌, ℕ, ◌+◌, ◌-◌, ◌*◌, ◌^◌, ◌≤◌, ◌<◌, List, ◌++◌, length, take, drop, refl, ap, sym, ◌∙◌, arith, length-drop, subst, Option, Some}
+use Rattle.std.proofs.Common.{◌≡◌, ℕ, ◌+◌, ◌-◌, ◌^◌, ◌≤◌, List, ◌++◌, length, take, drop, ap, sym, ◌∙◌, arith, length-drop, subst, Option, Some}
 use Rattle.std.proofs.lemmas.List.{take-append-le, drop-append-le, take-append-drop, take_all}
 use Rattle.byteorder.specs.Endian.{little_number}
 use Rattle.byteorder.specs.Numbers.{little_from-append}
 use Rattle.ac_io.specs.Outside.{ReadsFront}
-use Rattle.ac_app.specs.Head.{number_at, HasName, HasNames, HasNumbers, IsPlainHead, data_size}
+use Rattle.ac_app.specs.Head.{number_at, HasNames, HasNumbers, IsPlainHead, data_size}
 
 pub number_front : (p n : ℕ) (h r : List ℕ) → p + n ≤ length h → number_at p n (h ++ r) ≡ number_at p n h
 number_front p n h r long =

@@ -1,14 +1,14 @@
 -- From the words and the encode to the job.
-use Rattle.std.proofs.Common.{◌≡◌, ℕ, List, Option, Some, None, refl, subst, sym, inl, inr}
-use Rattle.std.specs.Prelude.{IsTrue, codes}
-use Rattle.ac_words.specs.Grammar.{Text, LastWords, Means, encode, InGrammar, RateOf, value_in}
+use Rattle.std.proofs.Common.{◌≡◌, ℕ, List, Option, Some, None, subst, sym}
+use Rattle.std.specs.Prelude.{codes}
+use Rattle.ac_words.specs.Grammar.{Text, InGrammar, RateOf, value_in}
 use Rattle.ac_words.specs.Asked.{GivesCommand, meaning_of}
 use Rattle.ac_words.specs.declared.meaning.Command.{Command}
 use Rattle.ac_words.specs.declared.meaning.Command.TheVariants.{Encode}
 use Rattle.ac_base.specs.Rates.{IsRate}
 use Rattle.ac_app.specs.declared.status.Status.{Status}
 use Rattle.ac_app.specs.declared.status.Status.TheVariants as statuses
-use Rattle.ac_app.specs.World.{Held, Holds}
+use Rattle.ac_app.specs.World.{Held}
 use Rattle.ac_app.specs.Run.{rate_asked, AsksEncode, EncodeTakes, EncodeGives, JobTakes, JobGives}
 
 pub asks : (ws : List Text) (c : Command) (rate : ℕ) → rate ≡ rate_asked c → GivesCommand ws c → AsksEncode ws rate

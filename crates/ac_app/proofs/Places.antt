@@ -1,6 +1,6 @@
 -- The places of a frame, and those of the next.
-use Rattle.std.proofs.Common.{◌≡◌, ℕ, zero, suc, ◌+◌, ◌-◌, ◌*◌, ◌^◌, ◌≤◌, ◌<◌, List, [], ◌++◌, length, take, drop, Option, Some, Result, Ok, Err, refl, ap, sym, subst, ◌∙◌, arith, inl, inr, true, false, ℤ, pos, slice_index_or, append_assoc, unsigned_abs, replicate, lit≤}
-use Rattle.std.specs.Prelude.{nat_lt, slice_range, if◌then◌else◌}
+use Rattle.std.proofs.Common.{◌≡◌, ℕ, suc, ◌+◌, ◌-◌, ◌*◌, ◌^◌, ◌≤◌, ◌<◌, List, [], ◌++◌, length, take, drop, Option, Some, Result, Ok, Err, refl, ap, sym, subst, ◌∙◌, arith, inl, inr, ℤ, pos, slice_index_or, append_assoc, unsigned_abs, replicate, lit≤}
+use Rattle.std.specs.Prelude.{slice_range, if◌then◌else◌}
 use Rattle.std.proofs.lemmas.Bool.{cases_lt, lt-ltb, le-ltb}
 use Rattle.std.proofs.lemmas.List.{append-nil, get_or_append_left, get_or-append-add, get_or-drop, get_or-take, get_or-replicate}
 use Rattle.ac_base.specs.Sigma.{Within}

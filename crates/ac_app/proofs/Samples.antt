@@ -1,13 +1,12 @@
 -- The samples of a frame are those of the data at its places.
-use Rattle.std.proofs.Common.{◌≡◌, ℕ, ◌+◌, ◌-◌, ◌*◌, ◌/◌, ◌≤◌, ◌<◌, List, [], ◌++◌, length, take, drop, Option, Some, IfSome, refl, ap, sym, subst, ◌∙◌, arith, length-drop, length-take, inl, inr, cond, true, false, ℤ, pos, slice_index_or}
-use Rattle.std.specs.Prelude.{◌*ℤ◌, nat_lt, if◌then◌else◌}
+use Rattle.std.proofs.Common.{◌≡◌, ℕ, ◌+◌, ◌*◌, ◌/◌, ◌≤◌, ◌<◌, List, ◌++◌, length, take, drop, Option, Some, IfSome, ap, sym, subst, ◌∙◌, arith, length-drop, length-take, inl, inr, ℤ, pos}
+use Rattle.std.specs.Prelude.{◌*ℤ◌, if◌then◌else◌}
 use Rattle.std.proofs.lemmas.Bool.{cases_lt, lt-ltb, le-ltb}
-use Rattle.std.proofs.lemmas.List.{take-append-le, drop-append-le, take-append-drop, take_all, drop-drop, drop_all}
+use Rattle.std.proofs.lemmas.List.{take-append-drop, take_all, drop-drop, drop_all}
 use Rattle.byteorder.specs.Endian.{little_number, twos_complement}
 use Rattle.ac_io.specs.Outside.{ReadsFront}
 use Rattle.ac_base.specs.Sigma.{Lists}
-use Rattle.ac_app.specs.Sound.{sample_of, sample_count, sound_at}
-use Rattle.ac_app.specs.Stream.{places}
+use Rattle.ac_app.specs.Sound.{sample_of}
 use Rattle.ac_app.specs.World.{IsBefore}
 use Rattle.ac_app.proofs.Heads.{number_front}
 

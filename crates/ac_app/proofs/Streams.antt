@@ -1,9 +1,9 @@
 -- From the frames to the stream of the data.
-use Rattle.std.proofs.Common.{◌≡◌, ℕ, ◌<◌, List, Option, Some, Result, Ok, Err, subst, sym, inl, inr}
+use Rattle.std.proofs.Common.{◌≡◌, ℕ, ◌<◌, List, Option, Ok, Err, subst, inl, inr}
 use Rattle.ac_app.specs.declared.frames.Stop.{Stop}
 use Rattle.ac_app.specs.declared.frames.Stop.TheVariants as stops
 use Rattle.ac_app.specs.declared.status.Status.TheVariants as statuses
-use Rattle.ac_app.specs.World.{Held, Holds, Frames, Stops, FramesLeave}
+use Rattle.ac_app.specs.World.{Held, Frames, Stops, FramesLeave}
 use Rattle.ac_app.specs.declared.status.Status.{Status}
 use Rattle.ac_app.specs.Head.{data_of}
 use Rattle.ac_app.specs.Run.{frames_of, Broke, StreamLeaves, EncodeGives}

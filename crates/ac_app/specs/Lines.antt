@@ -1,5 +1,5 @@
 -- The report: a line for each frame, and the status line. Each line ends with a line feed.
-use Rattle.std.specs.Prelude.{ℕ, zero, suc, List, [], ◌++◌, codes, decimal}
+use Rattle.std.specs.Prelude.{ℕ, List, ◌++◌, codes, decimal}
 use Rattle.ac_app.specs.declared.status.WavKind.{WavKind}
 use Rattle.ac_app.specs.declared.status.WavKind.TheVariants as kinds
 use Rattle.ac_app.specs.declared.status.Status.{Status}

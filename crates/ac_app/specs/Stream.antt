@@ -1,7 +1,6 @@
 -- The stream and the report of a plain WAV.
-use Rattle.std.specs.Prelude.{◌≡◌, ℕ, zero, suc, ◌+◌, ◌*◌, ◌<◌, List, [], ◌++◌, take, Option, Some, ℤ}
+use Rattle.std.specs.Prelude.{◌≡◌, ℕ, zero, suc, ◌+◌, ◌*◌, List, [], ◌++◌, ℤ}
 use Rattle.ac_base.specs.Sizes.{frame_words_of}
-use Rattle.ac_base.specs.Sigma.{Lists}
 use Rattle.ac_enc.specs.Frame.{IsFrame}
 use Rattle.ac_app.specs.Lines.{frame_line}
 use Rattle.ac_app.specs.Sound.{sound_at}

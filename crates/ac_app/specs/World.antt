@@ -1,5 +1,5 @@
 -- What the outside holds, where all of it is told, and what the frames leave.
-use Rattle.std.specs.Prelude.{◌≡◌, ℕ, suc, ◌+◌, ◌*◌, ◌<◌, List, ◌++◌, take, drop, length, Option, Some, Result, Ok, Err, ℤ}
+use Rattle.std.specs.Prelude.{◌≡◌, ℕ, ◌+◌, ◌*◌, ◌<◌, List, ◌++◌, take, drop, length, Option, Some, Result, Ok, Err, ℤ}
 use Rattle.ac_base.specs.Sigma.{Lists}
 use Rattle.ac_enc.specs.Frame.{IsFrame}
 use Rattle.ac_app.specs.Lines.{frame_line}

@@ -1,5 +1,5 @@
 -- A frame's places are told by their values alone.
-use Rattle.std.proofs.Common.{◌≡◌, ℕ, ◌+◌, ◌-◌, ◌*◌, ◌<◌, List, ℤ, pos, ◌++◌, slice_index_or, length, ap, sym, ◌∙◌, arith, inl, inr}
+use Rattle.std.proofs.Common.{◌≡◌, ℕ, ◌+◌, ◌-◌, ◌*◌, ◌<◌, List, ℤ, pos, ◌++◌, slice_index_or, length, ap, ◌∙◌, arith, inl, inr}
 use Rattle.std.specs.Prelude.{◌*ℤ◌}
 use Rattle.std.proofs.lemmas.Bool.{cases_lt}
 use Rattle.std.proofs.lemmas.List.{get_or_append_left, get_or-append-add}
@@ -9,7 +9,7 @@ use Rattle.ac_base.specs.Window.{window_of}
 use Rattle.ac_base.proofs.Rearranged.{sigma_same}
 use Rattle.ac_mdct.specs.Forward.{phase, rounded, windowed, forward_sum, coefficient}
 use Rattle.ac_expo.specs.Raw.{raw_of}
-use Rattle.ac_enc.specs.Frame.{IsFrame, coefficient_at, AreRaw}
+use Rattle.ac_enc.specs.Frame.{IsFrame, coefficient_at}
 
 -- a sum is told by its terms
 sum_same : (v u : ℕ → ℤ) (k : ℕ) → ((n : ℕ) → n < 512 → v n ≡ u n) → forward_sum v k ≡ forward_sum u k
@@ -21,17 +21,17 @@ coefficient_same x y same b k below =
 
 pub frame_same : (rate : ℕ) (x y : ℕ → ℤ) (frame : List ℕ) → ((p : ℕ) → p < 1792 → x p ≡ y p) → IsFrame rate x frame → IsFrame rate y frame
 frame_same rate x y frame same f = record {
-    code = f.code;
-    has_code = f.has_code;
-    spelled = f.spelled;
-    is_spelled = record {
-      raw = f.is_spelled.raw;
-      is_raw = λ b block k bin. f.is_spelled.is_raw b block k bin ∙ ap raw_of (coefficient_same x y same b k block);
-      exps = f.is_spelled.exps;
-      is_exps = f.is_spelled.is_exps;
-      is_spelled = f.is_spelled.is_spelled;
-    };
-    plain = f.plain;
+  code = f.code;
+  has_code = f.has_code;
+  spelled = f.spelled;
+  is_spelled = record {
+    raw = f.is_spelled.raw;
+    is_raw = λ b block k bin. f.is_spelled.is_raw b block k bin ∙ ap raw_of (coefficient_same x y same b k block);
+    exps = f.is_spelled.exps;
+    is_exps = f.is_spelled.is_exps;
+    is_spelled = f.is_spelled.is_spelled;
+  };
+  plain = f.plain;
 }
 
 -- two blocks side by side
@@ -41,9 +41,9 @@ side_by_side x b prev now long before after n within =
     elim (cases_lt n 256) [
       | inl h ↦ get_or_append_left prev now (pos 0) n (omega arith) ∙ before n h
       | inr h ↦
-        let at : n ≡ length prev + (n - 256) = omega arith in
-        let same : 256 * (b + 1) + (n - 256) ≡ 256 * b + n = omega arith in
-        ap (λ m. slice_index_or (prev ++ now) m (pos 0)) at ∙ (get_or-append-add prev now (n - 256) (pos 0) ∙ (after (n - 256) (omega arith) ∙ ap x same))
+          let at : n ≡ length prev + (n - 256) = omega arith in
+          let same : 256 * (b + 1) + (n - 256) ≡ 256 * b + n = omega arith in
+          ap (λ m. slice_index_or (prev ++ now) m (pos 0)) at ∙ (get_or-append-add prev now (n - 256) (pos 0) ∙ (after (n - 256) (omega arith) ∙ ap x same))
     ]
 
 pub block_sum : (x : ℕ → ℤ) (b k : ℕ) (prev now : List ℤ) → length prev ≡ 256 → Lists 256 (λ n. x (256 * b + n)) prev → Lists 256 (λ n. x (256 * (b + 1) + n)) now

@@ -1,6 +1,6 @@
 -- The frame of a mono sound at 48 kHz: offset 0, exponents D45 in block 0 and reuse after it.
 -- The sound of a frame is the 256 places before it, and its own 1,536.
-use Rattle.std.specs.Prelude.{◌≡◌, ℕ, ◌+◌, ◌-◌, ◌*◌, ◌<◌, min, Option, None, List, [], ◌++◌, slice_index, slice_index_or, ℤ, pos}
+use Rattle.std.specs.Prelude.{◌≡◌, ℕ, ◌+◌, ◌-◌, ◌*◌, ◌<◌, min, None, List, [], ◌++◌, slice_index, slice_index_or, ℤ, pos}
 use Rattle.ac_base.specs.Rates.{HasCode}
 use Rattle.ac_base.specs.Shape.{full_span}
 use Rattle.ac_base.specs.Window.{window_of}

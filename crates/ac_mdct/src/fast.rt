@@ -6,10 +6,10 @@ ghost use Rattle.ac_mdct.specs.Inverse.{inverse_sum, part, IsSound, IsDelay};
 ghost use Rattle.ac_mdct.specs.Place.{place, unfolded};
 ghost use Rattle.ac_base.specs.Sigma.{Lists};
 
-use crate::windowing::windowed;
 use crate::folded::fold;
 use crate::powers::{log, place_of, powers, slid, spin_forward, spin_inverse};
 use crate::rounding::{coefficient_of, part, sample};
+use crate::windowing::windowed;
 
 /// The 256 coefficients of 256 new samples `now` and the 256 before them, `prev` (A/52 8.2.3.2).
 ///

@@ -1,4 +1,4 @@
-use Rattle.std.proofs.Common.{rules, ◌≡◌, ℕ, List, Some, ap}
+use Rattle.std.proofs.Common.{rules, ◌≡◌, Some, ap}
 use Rattle.ac_app.specs.Run.{frames_of}
 use Rattle.ac_app.proofs.Streams.{wrote_all, broke_output, broke_report}
 use Rattle.ac_app.proofs.encode.write_frames.Goals as goal

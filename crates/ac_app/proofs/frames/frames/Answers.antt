@@ -1,4 +1,4 @@
-use Rattle.std.proofs.Common.{◌≡◌, ◌≤◌, ◌+◌, arith, List, ℕ, subst}
+use Rattle.std.proofs.Common.{◌≡◌, arith, ℕ, subst}
 use Rattle.ac_app.specs.World.{Frames}
 use Rattle.ac_app.proofs.Places.{silent, silent_bound, no_frames, one_more, stopped}
 use Rattle.std.proofs.lemmas.Result.{err_from_is_err_and}

@@ -1,4 +1,4 @@
-use Rattle.std.proofs.Common.{◌≡◌, ◌≤◌, ◌^◌, ℕ, List, Option, Some, length}
+use Rattle.std.proofs.Common.{◌≡◌, ◌≤◌, ◌^◌, ℕ, List, Some}
 use Rattle.ac_base.specs.Sigma.{Within}
 use Rattle.ac_app.specs.World.{Held, Holds, Frames, IsBefore, IsLast}
 use Rattle.ac_app.proofs.frames.frames.Given as goal

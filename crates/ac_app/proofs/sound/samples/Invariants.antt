@@ -1,4 +1,4 @@
-use Rattle.std.proofs.Common.{◌≡◌, ◌≤◌, ℕ, ◌^◌, length}
+use Rattle.std.proofs.Common.{◌≡◌, ◌^◌, length}
 use Rattle.ac_base.specs.Sigma.{Within}
 use Rattle.ac_base.specs.Sigma.{Lists}
 use Rattle.ac_app.specs.Sound.{sample_of}

@@ -1,4 +1,4 @@
-use Rattle.std.proofs.Common.{◌≡◌, ℕ, List, drop, Option, Some}
+use Rattle.std.proofs.Common.{drop}
 use Rattle.ac_app.proofs.Datas.{data_told}
 use Rattle.ac_app.proofs.wav.read_data.Goals as goal
 

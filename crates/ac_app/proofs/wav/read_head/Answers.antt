@@ -1,4 +1,4 @@
-use Rattle.std.proofs.Common.{◌≡◌, ℕ, ◌≤◌, List, ◌++◌, drop, Option, Some, arith, rules, refl, sym, ◌∙◌, length, true, false}
+use Rattle.std.proofs.Common.{◌≡◌, ◌≤◌, drop, arith, refl, ◌∙◌, length, true, false}
 use Rattle.ac_app.specs.Head.{IsPlainHead}
 use Rattle.ac_app.proofs.Heads.{head_read, plain_in, plain_out, size_same}
 use Rattle.ac_app.proofs.wav.read_head.Goals as goal
