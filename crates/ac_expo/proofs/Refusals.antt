@@ -9,7 +9,8 @@ use Rattle.ac_base.specs.Shape.{IsSpan}
 use Rattle.ac_expo.specs.Steps.{step_of, bin_of, groups_of, last_step}
 use Rattle.ac_expo.specs.Greatest.{IsSpellable}
 use Rattle.ac_expo.specs.Spelling.{Spelling}
-use Rattle.ac_expo.specs.Groups.{mapped_of, sum_to, spelled_exponent, IsOutside, IsBadSum, HasBadSum, IsOfGroup, IsRefused, NoneRefused, IsExpanded}
+use Rattle.ac_expo.specs.Groups.{mapped_of, sum_to, spelled_exponent, IsOutside, IsOfGroup, IsRefused, NoneRefused, IsExpanded}
+use Rattle.ac_expo.specs.Sums.{IsBadSum, HasBadSum}
 use Rattle.ac_expo.proofs.Walk.{range, walk, origin, span_kind, start_before_end}
 use Rattle.ac_expo.proofs.Places.{step_of_bin, bin_from, bin_low, step_up_to, step_some}
 use Rattle.ac_expo.proofs.Spellings.{sum_none, sum_more, mapped_zero, mapped_one, mapped_two, true_or_false}

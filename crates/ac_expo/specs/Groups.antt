@@ -63,13 +63,6 @@ spelled_exponent lead spelled step = sum_to lead spelled step - 2 * step
 abbrev pub IsOutside : Lead → Spelling → ℕ → Type 0
 IsOutside lead spelled step = (sum_to lead spelled step < 2 * step) ⊎ (2 * step + 24 < sum_to lead spelled step)
 
--- the same by a list of sums, for a step up to the last one with a bin
-abbrev pub IsBadSum : List ℕ → ℕ → ℕ → Type 0
-IsBadSum sums last step = (step ≤ last) × ((slice_index sums step < 2 * step) ⊎ (2 * step + 24 < slice_index sums step))
-
-abbrev pub HasBadSum : List ℕ → ℕ → ℕ → Type 0
-HasBadSum sums last step = IsBadSum sums last (step + 1) ⊎ (IsBadSum sums last (step + 2) ⊎ IsBadSum sums last (step + 3))
-
 -- the group at a place gives the exponents of steps 3 place + 1 to 3 place + 3
 abbrev pub IsOfGroup : ℕ → ℕ → Type 0
 IsOfGroup place step = (3 * place < step) × (step ≤ 3 * place + 3)

@@ -5,4 +5,5 @@ pub mod Raw
 pub mod Spans
 pub mod Spelling
 pub mod Steps
+pub mod Sums
 pub mod Words

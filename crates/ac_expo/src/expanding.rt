@@ -4,7 +4,8 @@ ghost use Rattle.ac_expo.specs.Spans.{IsIn, IsKind, is_coupling};
 ghost use Rattle.ac_base.specs.Shape.{IsSpan};
 ghost use Rattle.ac_expo.specs.Steps.{step_of, bin_of, groups_of, last_step};
 ghost use Rattle.ac_expo.specs.Greatest.{IsSpellable};
-ghost use Rattle.ac_expo.specs.Groups.{mapped_of, sum_to, spelled_exponent, IsBadSum, HasBadSum, IsRefused, IsFirstRefused, NoneRefused, IsExpanded};
+ghost use Rattle.ac_expo.specs.Groups.{mapped_of, sum_to, spelled_exponent, IsRefused, IsFirstRefused, NoneRefused, IsExpanded};
+ghost use Rattle.ac_expo.specs.Sums.{IsBadSum, HasBadSum};
 
 use crate::grouping::before;
 use crate::spelled::Spelled;

@@ -5,7 +5,7 @@ use std::marker::Model;
 
 /// The first exponent (4 bits) and up to 84 groups of three differences (7 bits each), as `exps` and the groups
 /// beside it, or `cplabsexp` and its groups (A/52 7.1.3).
-#[derive(Clone, Copy, PartialEq, Eq)]
+#[derive(Clone, Copy, Debug, PartialEq, Eq)]
 pub struct Spelled {
     first: u8,
     cells: [u8; 84],

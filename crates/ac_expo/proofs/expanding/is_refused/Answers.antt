@@ -1,6 +1,6 @@
 use Rattle.std.proofs.Common.{◌≡◌, ◌≤◌, ◌*◌, ◌-◌, ℕ, slice_index, arith, ap, sym, ◌∙◌, subst}
 use Rattle.ac_expo.specs.Steps.{step_of}
-use Rattle.ac_expo.specs.Groups.{HasBadSum}
+use Rattle.ac_expo.specs.Sums.{HasBadSum}
 use Rattle.ac_expo.proofs.Refusals.{by_sums}
 use Rattle.ac_expo.proofs.Walk.{walk}
 use Rattle.ac_expo.proofs.expanding.is_refused.Goals as goal
