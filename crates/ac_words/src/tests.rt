@@ -20,7 +20,10 @@ fn are_refused(alloc: Global, line: &[&str]) -> Result<bool, AllocError> {
 }
 
 #[test]
-fn encode_has_its_rate_the_defaults_and_three_names(rt: HostRuntime) -> Result<(), Fail> {
+fn command_words(rt: HostRuntime) -> Result<(), Fail> {
+    assert!(rt; are_refused(rt.alloc(), &["encode", "--rate", "193", "-", "-", "-"])?);
+    assert!(rt; are_refused(rt.alloc(), &["encode", "--rate=192", "-", "-", "-"])?);
+    assert!(rt; are_refused(rt.alloc(), &[])?);
     let words = words_of(rt.alloc(), &["encode", "--rate", "192", "a", "b.ac3", "c"])?;
     let options = Options {
         rate: 192,
