@@ -5,3 +5,4 @@ pub mod Places
 pub mod Streams
 pub mod Jobs
 pub mod Ends
+pub mod Laws

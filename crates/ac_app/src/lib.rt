@@ -4,6 +4,7 @@
 mod encode;
 mod frames;
 mod head;
+mod law;
 mod lines;
 mod sound;
 mod status;
@@ -14,6 +15,7 @@ pub use ac_io::{
     Failed, MemSink, MemSource, NullSink, Sink, Source, StdSink, StdSource, SureSource,
 };
 pub use ac_words::{Command, Couple, Names, Options, WordsFault, command, names};
+pub use law::{stream_law, wav_law};
 pub use status::{Status, WavKind};
 pub use top::run;
 

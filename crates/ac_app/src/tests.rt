@@ -1,5 +1,5 @@
 //! The worked examples of the top call, over a source and sinks in memory.
-use crate::{MemSink, MemSource, Status, WavKind, run};
+use crate::{MemSink, MemSource, Status, WavKind, run, stream_law, wav_law};
 use std::alloc::{AllocError, Global};
 use std::test::Fail;
 
@@ -97,6 +97,7 @@ fn empty_mono(rt: HostRuntime) -> Result<(), Fail> {
 
 #[test]
 fn frame_count(rt: HostRuntime) -> Result<(), Fail> {
+    stream_law();
     let one = encoded(rt.alloc(), &silence(rt.alloc(), 1280)?)?;
     assert_eq!(rt; one.status, Status::Ok);
     assert_eq!(rt; one.output.len(), 768);
@@ -211,6 +212,7 @@ fn stereo_not_yet(rt: HostRuntime) -> Result<(), Fail> {
 // Each length below a whole head is short there.
 #[test]
 fn every_cut_head(rt: HostRuntime) -> Result<(), Fail> {
+    wav_law();
     for cut in 0..44usize {
         let left = encoded(rt.alloc(), &EMPTY[..cut])?;
         assert_eq!(rt; left.status, Status::BadWav(WavKind::Short, cut as u64));

@@ -88,3 +88,6 @@ pub fn encode_frame(rate: u16, last: &[i32; 256], pcm: &[i32; 1536], out: &mut [
     let spelled = spelled(rate, last, pcm);
     plain(&size_of(rate), spelled.first(), spelled.groups(), out)
 }
+
+#[cfg(test)]
+mod tests;

@@ -2,6 +2,8 @@
 #![tactic(auto)]
 
 mod frame;
+mod law;
 mod raw;
 
 pub use frame::encode_frame;
+pub use law::frame_law;

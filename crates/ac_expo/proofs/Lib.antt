@@ -8,3 +8,4 @@ pub mod Kept
 pub mod Places
 pub mod Spellings
 pub mod Refusals
+pub mod Agreeing

@@ -1,0 +1,19 @@
+use Rattle.std.proofs.Common.{sym}
+use Rattle.ac_enc.proofs.Frames.{size, front, whole, one}
+use Rattle.ac_enc.proofs.Places.{frame_same}
+use Rattle.ac_enc.proofs.law.frame_law.Goals as goal
+
+pub returns-clause-size : goal.returns-clause-size
+returns-clause-size c = size
+
+pub returns-clause-first_part : goal.returns-clause-first_part
+returns-clause-first_part c = front
+
+pub returns-clause-both_parts : goal.returns-clause-both_parts
+returns-clause-both_parts c = whole
+
+pub returns-clause-one : goal.returns-clause-one
+returns-clause-one c = one
+
+pub returns-clause-told : goal.returns-clause-told
+returns-clause-told c = λ rate x y frame same. (frame_same rate x y frame same, frame_same rate y x frame (λ p below. sym (same p below)))
