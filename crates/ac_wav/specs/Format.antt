@@ -1,8 +1,8 @@
 -- The fields of a `fmt ` chunk, the tests in their order, and what the head says. Numbers are little endian.
-use Rattle.std.specs.Prelude.{ℕ, ◌+◌, ◌*◌, ◌/◌, ◌%◌, ◌^◌, Bool, not, ◌==◌, ◌||◌, ◌&&◌, leb, if◌then◌else◌, List, [], ◌∷◌, length, drop, Option, Some, None}
+use Rattle.std.specs.Prelude.{◌≡◌, ◌≤◌, ◌⊎◌, ℕ, ◌+◌, ◌*◌, ◌/◌, ◌%◌, ◌^◌, Bool, not, ◌==◌, ◌||◌, ◌&&◌, leb, if◌then◌else◌, List, [], ◌∷◌, length, drop, Option, Some, None}
 use Rattle.byteorder.specs.Endian.{little_number}
 use Rattle.ac_wav.specs.declared.fault.WavKind.{WavKind}
-use Rattle.ac_wav.specs.declared.fault.WavKind.TheVariants.{BadFmt, Unsupported}
+use Rattle.ac_wav.specs.declared.fault.WavKind.TheVariants.{Short, NotRiff, NoFmt, NoData, BadFmt, Unsupported}
 use Rattle.ac_wav.specs.declared.fault.Field.TheVariants as fields
 use Rattle.ac_wav.specs.declared.format.Format.{Format}
 use Rattle.ac_wav.specs.declared.format.Fault.{Fault}
@@ -12,10 +12,10 @@ use Rattle.ac_wav.specs.Layout.{has_lfe, acmod_of, channel_count, default_mask}
 abbrev pub number_at : ℕ → ℕ → List ℕ → ℕ
 number_at place n bytes = little_number n (drop place bytes)
 
--- the fields in the bytes of a `fmt ` chunk. Bytes per second at 8, and valid bits at 18, are ignored.
-abbrev pub format_of : List ℕ → Format
-format_of body = record {
-    size = length body;
+-- the fields of a `fmt ` chunk of this size in its bytes. Bytes per second at 8, and valid bits at 18, are ignored.
+abbrev pub fields_of : ℕ → List ℕ → Format
+fields_of size body = record {
+    size = size;
     tag = number_at 0 2 body;
     channels = number_at 2 2 body;
     rate = number_at 4 4 body;
@@ -25,6 +25,10 @@ format_of body = record {
     mask = number_at 20 4 body;
     subformat = number_at 24 16 body;
 }
+
+-- the fields of a `fmt ` chunk with these bytes
+abbrev pub format_of : List ℕ → Format
+format_of body = fields_of (length body) body
 
 -- the subformat of PCM: 01 00 00 00 00 00 10 00 80 00 00 AA 00 38 9B 71
 abbrev pub pcm_subformat : ℕ
@@ -75,6 +79,15 @@ first_fault None other = other
 abbrev pub fault_of : Format → Option Fault
 fault_of f = first_fault (first_failing (common_tests f)) (if is_extensible f then first_failing (extension_tests f) else None)
 
+-- a refusal of a field
+abbrev pub IsOfField : WavKind → Type 0
+IsOfField Short = ⊥
+IsOfField NotRiff = ⊥
+IsOfField NoFmt = ⊥
+IsOfField NoData = ⊥
+IsOfField (BadFmt field) = Unit {0}
+IsOfField (Unsupported field value) = Unit {0}
+
 -- the mask that the channels have
 abbrev pub layout_of : Format → ℕ
 layout_of f = if is_extensible f && not (f.mask == 0) then f.mask else default_mask f.channels
@@ -82,3 +95,11 @@ layout_of f = if is_extensible f && not (f.mask == 0) then f.mask else default_m
 -- fscod of a rate (A/52 table 5.6)
 abbrev pub fscod_of : ℕ → ℕ
 fscod_of rate = if rate == 48000 then 0 else (if rate == 44100 then 1 else 2)
+
+-- what an accepted format has
+pub record IsFine (f : Format) : Type 0 where
+  pub least : 1 ≤ f.channels
+  pub most : f.channels ≤ 6
+  pub bits_are : (f.bits ≡ 16) ⊎ (f.bits ≡ 24)
+  pub mode : 1 ≤ acmod_of (layout_of f)
+  pub count : channel_count (acmod_of (layout_of f)) (has_lfe (layout_of f)) ≡ f.channels

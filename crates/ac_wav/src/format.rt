@@ -1,9 +1,10 @@
 //! The fields of a `fmt ` chunk, and the tests that they must pass.
-ghost use Rattle.std.specs.Prelude.{◌≡◌, ◌≤◌, ◌<◌, Option, Some, None};
-ghost use Rattle.ac_wav.specs.Format.{is_extensible, common_tests, extension_tests, first_failing, fault_of, layout_of, fscod_of};
+ghost use Rattle.std.specs.Prelude.{◌≡◌, ◌≤◌, ◌<◌, ◌+◌, Option, Some, None, IfSome};
+ghost use Rattle.ac_wav.specs.Format.{fields_of, IsOfField, is_extensible, common_tests, extension_tests, first_failing, fault_of, layout_of, fscod_of};
 
 use crate::fault::{Field, WavKind};
 use crate::layout;
+use byteorder::{ByteOrder, LittleEndian};
 
 /// The fields of a `fmt ` chunk. Those past its end are 0.
 #[derive(Clone, Copy, Debug, PartialEq, Eq)]
@@ -49,6 +50,23 @@ fn unsupported(field: Field, value: u32, place: u64) -> Option<Fault>
 }
 
 impl Format {
+    /// The fields of a chunk of this size, whose first bytes stand in `body`.
+    pub fn read(size: u32, body: &[u8; 40]) -> Format
+        ensures { result ≡ fields_of size body.now }
+    {
+        Format {
+            size,
+            tag: LittleEndian::read_u16(&body[..]),
+            channels: LittleEndian::read_u16(&body[2..]),
+            rate: LittleEndian::read_u32(&body[4..]),
+            align: LittleEndian::read_u16(&body[12..]),
+            bits: LittleEndian::read_u16(&body[14..]),
+            extra: LittleEndian::read_u16(&body[16..]),
+            mask: LittleEndian::read_u32(&body[20..]),
+            subformat: LittleEndian::read_u128(&body[24..]),
+        }
+    }
+
     /// Whether the chunk has the extensible form.
     fn is_extensible(&self) -> bool
         ensures { result ≡ is_extensible self.now }
@@ -58,7 +76,10 @@ impl Format {
 
     /// The first test of every format that this one fails.
     fn common_fault(&self) -> Option<Fault>
-        ensures { result ≡ first_failing (common_tests self.now) }
+        ensures value { result ≡ first_failing (common_tests self.now) }
+        ensures kind { IfSome result (λ fault. IsOfField fault.kind) }
+        ensures near { IfSome result (λ fault. fault.place ≤ 8 + self.now.size) }
+        ensures long { result ≡ None → is_extensible self.now ≡ true → 40 ≤ self.now.size }
     {
         if self.size < 16 {
             return bad(Field::Size, 4);
@@ -86,7 +107,10 @@ impl Format {
 
     /// The first test of the extension that this one fails.
     fn extension_fault(&self) -> Option<Fault>
-        ensures { result ≡ first_failing (extension_tests self.now) }
+        requires { 40 ≤ self.now.size }
+        ensures value { result ≡ first_failing (extension_tests self.now) }
+        ensures kind { IfSome result (λ fault. IsOfField fault.kind) }
+        ensures near { IfSome result (λ fault. fault.place ≤ 8 + self.now.size) }
     {
         if self.extra < 22 {
             return bad(Field::Extra, 24);
@@ -107,7 +131,9 @@ impl Format {
 
     /// The first test that this format fails.
     pub fn fault(&self) -> Option<Fault>
-        ensures { result ≡ fault_of self.now }
+        ensures value { result ≡ fault_of self.now }
+        ensures kind { IfSome result (λ fault. IsOfField fault.kind) }
+        ensures near { IfSome result (λ fault. fault.place ≤ 8 + self.now.size) }
     {
         if let Some(fault) = self.common_fault() {
             return Some(fault);
@@ -116,6 +142,18 @@ impl Format {
             self.extension_fault()
         } else {
             None
+        }
+    }
+
+    /// The mask that the channels have.
+    pub fn layout(&self) -> u32
+        requires { self.now.channels ≤ 6 }
+        ensures { result ≡ layout_of self.now }
+    {
+        if self.is_extensible() && self.mask != 0 {
+            self.mask
+        } else {
+            layout::usual_mask(self.channels)
         }
     }
 }

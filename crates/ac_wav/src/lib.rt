@@ -4,8 +4,12 @@
 //! with the first rule that fails and the place where it fails.
 #![tactic(auto)]
 
+mod chunk;
 mod fault;
 mod format;
+mod head;
 mod layout;
+mod pieces;
 
 pub use fault::{Field, WavFault, WavKind};
+pub use head::WavHead;
