@@ -1,3 +1,5 @@
 pub mod Limits
 pub mod Chunks
 pub mod Stops
+pub mod Fields
+pub mod Fine

@@ -1,6 +1,6 @@
 //! The fields of a `fmt ` chunk, and the tests that they must pass.
-ghost use Rattle.std.specs.Prelude.{◌≡◌, ◌≤◌, ◌<◌, ◌+◌, Option, Some, None, IfSome};
-ghost use Rattle.ac_wav.specs.Format.{fields_of, IsOfField, is_extensible, common_tests, extension_tests, first_failing, fault_of, layout_of, fscod_of};
+ghost use Rattle.std.specs.Prelude.{◌≡◌, ◌≤◌, ◌<◌, ◌+◌, Option, Some, None, IfSome, true, length};
+ghost use Rattle.ac_wav.specs.Format.{number_at, fields_of, IsOfField, is_extensible, common_tests, extension_tests, first_failing, fault_of, layout_of, fscod_of};
 
 use crate::fault::{Field, WavKind};
 use crate::layout;
@@ -31,6 +31,29 @@ pub struct Fault {
 /// The subformat of PCM.
 const PCM: u128 = 0x719B3800_AA000080_00100000_00000001;
 
+/// The number in the two bytes from this place on.
+fn short_at(body: &[u8; 40], place: usize) -> u16
+    requires { place ≤ 38 }
+    ensures { result ≡ number_at place 2 body.now }
+{
+    LittleEndian::read_u16(&body[place..])
+}
+
+/// The number in the four bytes from this place on.
+fn long_at(body: &[u8; 40], place: usize) -> u32
+    requires { place ≤ 36 }
+    ensures { result ≡ number_at place 4 body.now }
+{
+    LittleEndian::read_u32(&body[place..])
+}
+
+/// The number in the last 16 bytes.
+fn last_of(body: &[u8; 40]) -> u128
+    ensures { result ≡ number_at 24 16 body.now }
+{
+    LittleEndian::read_u128(&body[24..])
+}
+
 fn bad(field: Field, place: u64) -> Option<Fault>
     ensures { result ≡ Some (record { kind = WavKind.BadFmt field; place = place }) }
 {
@@ -56,14 +79,14 @@ impl Format {
     {
         Format {
             size,
-            tag: LittleEndian::read_u16(&body[..]),
-            channels: LittleEndian::read_u16(&body[2..]),
-            rate: LittleEndian::read_u32(&body[4..]),
-            align: LittleEndian::read_u16(&body[12..]),
-            bits: LittleEndian::read_u16(&body[14..]),
-            extra: LittleEndian::read_u16(&body[16..]),
-            mask: LittleEndian::read_u32(&body[20..]),
-            subformat: LittleEndian::read_u128(&body[24..]),
+            tag: short_at(body, 0),
+            channels: short_at(body, 2),
+            rate: long_at(body, 4),
+            align: short_at(body, 12),
+            bits: short_at(body, 14),
+            extra: short_at(body, 16),
+            mask: long_at(body, 20),
+            subformat: last_of(body),
         }
     }
 

@@ -1,9 +1,9 @@
 //! The head of a WAV.
-ghost use Rattle.std.specs.Prelude.{◌≡◌, ◌≢◌, ℕ, ◌+◌, ◌≤◌, ◌<◌, ◌⊎◌, List, length, drop, codes, Option, Some, None, IfOk, OnOk, MatchResult, IsErrOf};
+ghost use Rattle.std.specs.Prelude.{◌≡◌, ◌≢◌, ℕ, ◌+◌, ◌≤◌, ◌<◌, ◌⊎◌, List, length, drop, codes, Option, Some, None, take, IfOk, OnOk, MatchOption, MatchResult, IsErrOf};
 ghost use Rattle.ac_io.specs.Outside.{Rose};
 ghost use Rattle.ac_wav.specs.Format.{fields_of, fault_of, fscod_of, IsFine};
 ghost use Rattle.ac_wav.specs.Form.{name_of, size_of, padded, whole_length, IsRiff, IsOpen, IsFormatted, IsDataAt, head_of, data_size, IsOfProfile};
-ghost use Rattle.ac_wav.specs.Refusal.{Reaches, IsStopped, HeadRead};
+ghost use Rattle.ac_wav.specs.Refusal.{Reaches, IsNoRiff, IsStopped, HeadRead};
 ghost use Rattle.ac_wav.specs.Pieces.{IsAt, ReadsOn, IsUntaken, ChunkRead, FormatRead, IsFound, DataFound};
 
 use crate::chunk::{ChunkHead, Name, read_chunk_head};
@@ -48,6 +48,19 @@ struct Samples {
     size: u32,
 }
 
+/// The place of a name that isn't that of a WAV.
+fn other_name(riff: &[u8; 12]) -> Option<u64>
+    ensures { MatchOption result (take 4 riff.now ≡ codes "RIFF" × take 4 (drop 8 riff.now) ≡ codes "WAVE") (IsNoRiff riff.now) }
+{
+    if &riff[..4] == b"RIFF".as_slice() {
+        if &riff[8..12] == b"WAVE".as_slice() {
+            return None;
+        }
+        return Some(8);
+    }
+    Some(0)
+}
+
 /// Reads the 12-byte head.
 fn read_riff<S: Source>(input: &mut S, limit: u64) -> Result<(), WavFault>
     ensures within { OnOk result (12 ≤ limit) }
@@ -58,13 +71,10 @@ fn read_riff<S: Source>(input: &mut S, limit: u64) -> Result<(), WavFault>
 {
     let mut riff = [0; 12];
     read_exact(input, 0, limit, &mut riff)?;
-    if &riff[..4] != b"RIFF".as_slice() {
-        return Err(WavFault::Bad(WavKind::NotRiff, 0));
+    match other_name(&riff) {
+        None => Ok(()),
+        Some(place) => Err(WavFault::Bad(WavKind::NotRiff, place)),
     }
-    if &riff[8..] != b"WAVE".as_slice() {
-        return Err(WavFault::Bad(WavKind::NotRiff, 8));
-    }
-    Ok(())
 }
 
 /// Reads the bytes of the `fmt ` chunk of this size that begins at `place`, and its pad byte.
@@ -106,11 +116,13 @@ fn accept<S: Source>(
     ensures never_falls { S.faults input.old ≤ S.faults input.new }
 {
     let format = read_format(input, place, limit, size)?;
-    if let Some(fault) = format.fault() {
-        return Err(WavFault::Bad(fault.kind, place + fault.place));
+    match format.fault() {
+        Some(fault) => Err(WavFault::Bad(fault.kind, place + fault.place)),
+        None => {
+            let end = place + 8 + u64::from(size) + u64::from(size % 2);
+            Ok(Found { format, end })
+        }
     }
-    let end = place + 8 + u64::from(size) + u64::from(size % 2);
-    Ok(Found { format, end })
 }
 
 /// Passes over the chunk that begins at `place`, whose head was read, and gives the place behind it.
@@ -166,13 +178,15 @@ fn find_samples<S: Source>(input: &mut S, start: u64, limit: u64) -> Result<Samp
     let mut place = start;
     loop {
         let chunk = read_chunk_head(input, place, limit)?;
-        if chunk.name == Name::Samples {
-            return Ok(Samples {
-                place: place + 8,
-                size: chunk.size,
-            });
+        match chunk.name {
+            Name::Samples => {
+                return Ok(Samples {
+                    place: place + 8,
+                    size: chunk.size,
+                });
+            }
+            _ => place = pass_chunk(input, place, limit, &chunk)?,
         }
-        place = pass_chunk(input, place, limit, &chunk)?;
     }
 }
 
