@@ -3,3 +3,4 @@ pub mod Chunks
 pub mod Stops
 pub mod Fields
 pub mod Fine
+pub mod Rooms

@@ -3,3 +3,4 @@ pub mod Format
 pub mod Form
 pub mod Refusal
 pub mod Pieces
+pub mod Samples

@@ -4,12 +4,14 @@
 //! with the first rule that fails and the place where it fails.
 #![tactic(auto)]
 
+mod body;
 mod chunk;
 mod fault;
 mod format;
 mod head;
 mod layout;
 mod pieces;
+mod samples;
 
 pub use fault::{Field, WavFault, WavKind};
 pub use head::WavHead;
