@@ -4,3 +4,4 @@ pub mod Stops
 pub mod Fields
 pub mod Fine
 pub mod Rooms
+pub mod Rows

@@ -1,6 +1,6 @@
 -- A WAV as a whole list of bytes: the 12-byte head, chunks that are passed over, the `fmt ` chunk, chunks that are
 -- passed over, the `data` chunk, and a rest that isn't looked at. Places count from 0 at the first byte.
-use Rattle.std.specs.Prelude.{◌≡◌, ◌≢◌, ◌⊎◌, ℕ, ◌+◌, ◌%◌, ◌^◌, ◌-◌, ◌≤◌, ◌==◌, List, ◌++◌, length, take, drop, codes, All, Option, Some, None, if◌then◌else◌}
+use Rattle.std.specs.Prelude.{◌≡◌, ◌≢◌, ℕ, ◌+◌, ◌%◌, ◌^◌, ◌-◌, ◌≤◌, ◌==◌, List, ◌++◌, length, take, drop, codes, All, Option, Some, None, if◌then◌else◌}
 use Rattle.std.specs.List.{concat}
 use Rattle.ac_wav.specs.declared.format.Format.{Format}
 use Rattle.ac_wav.specs.declared.head.WavHead.{WavHead}
@@ -99,7 +99,9 @@ pub record IsOfProfile (head : WavHead) : Type 0 where
   pub fscod_most : head.fscod ≤ 2
   pub acmod_least : 1 ≤ head.acmod
   pub acmod_most : head.acmod ≤ 7
-  pub bits_are : (head.bits ≡ 16) ⊎ (head.bits ≡ 24)
+  pub bits_least : 16 ≤ head.bits
+  pub bits_most : head.bits ≤ 24
+  pub bits_whole : head.bits % 8 ≡ 0
   pub count : head.channels ≡ channel_count head.acmod head.lfe
   pub order_is : head.order ≡ order_of head.acmod head.lfe
 

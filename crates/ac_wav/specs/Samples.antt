@@ -87,3 +87,10 @@ IsUnsampled bytes head before limit TooLong = (limit < length bytes) × (limit <
 pub record IsStanding (head : WavHead) (taken : ℕ) : Type 0 where
   pub least : head.taken ≤ taken
   pub most : taken ≤ head.taken + stated head.size taken
+
+-- n bytes of the data were read into the front of a piece; fewer than 1,536 samples ask for only at the end of the data
+pub record PartRead (bytes : List ℕ) (head : WavHead) (taken n : ℕ) (piece : List ℕ) (left : Option (List ℕ)) : Type 0 where
+  pub at : IsAt bytes (taken + n) left
+  pub front : take n piece ≡ take n (drop taken bytes)
+  pub inside : taken + n ≤ head.taken + data_length head bytes
+  pub whole : n < 1536 * align_of head → taken + n ≡ head.taken + data_length head bytes

@@ -13,5 +13,6 @@ mod layout;
 mod pieces;
 mod samples;
 
+pub use body::WavBody;
 pub use fault::{Field, WavFault, WavKind};
 pub use head::WavHead;

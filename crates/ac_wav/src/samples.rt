@@ -1,5 +1,5 @@
 //! The samples in the bytes of the data.
-ghost use Rattle.std.specs.Prelude.{◌≡◌, ℕ, ◌+◌, ◌-◌, ◌*◌, ◌/◌, ◌^◌, ◌<◌, ◌≤◌, List, length, drop, ℤ, pos, ◌*ℤ◌, unsigned_abs, slice_index_or, slice_index, ◌⊎◌};
+ghost use Rattle.std.specs.Prelude.{◌≡◌, ℕ, ◌+◌, ◌-◌, ◌*◌, ◌/◌, ◌^◌, ◌<◌, ◌≤◌, List, length, drop, ℤ, pos, ◌*ℤ◌, unsigned_abs, slice_index_or, slice_index, ◌%◌};
 ghost use Rattle.byteorder.specs.Endian.{little_number, twos_complement};
 ghost use Rattle.ac_wav.specs.Form.{IsOfProfile};
 ghost use Rattle.ac_wav.specs.Samples.{width_of, align_of, value_of, offset_of, sample_in, RowIs, RowWithin, RowsAre, RowsWithin};
@@ -30,7 +30,9 @@ fn signed(word: u32) -> i32
 /// The sample in the first bytes.
 fn value(bits: u8, bytes: &[u8]) -> i32
     requires long { bits / 8 ≤ length bytes.now }
-    requires bits_are { (bits ≡ 16) ⊎ (bits ≡ 24) }
+    requires least { 16 ≤ bits }
+    requires most { bits ≤ 24 }
+    requires whole { bits % 8 ≡ 0 }
     ensures value { result ≡ value_of bits bytes.now }
     ensures bound { unsigned_abs result ≤ 2 ^ 23 }
 {
