@@ -45,9 +45,9 @@ within_cut bytes place limit h k =
 
 riff_cut : (bytes : List ℕ) (limit : ℕ) → 12 ≤ limit → IsRiff bytes → IsRiff (take limit bytes)
 riff_cut bytes limit h r = record {
-    long = within_cut bytes 12 limit r.long h;
-    riff = take-take 4 limit bytes (omega arith) ∙ r.riff;
-    wave = ap (take 4) (from_cut bytes 8 limit (omega arith)) ∙ (take-take 4 (limit - 8) (drop 8 bytes) (omega arith) ∙ r.wave);
+  long = within_cut bytes 12 limit r.long h;
+  riff = take-take 4 limit bytes (omega arith) ∙ r.riff;
+  wave = ap (take 4) (from_cut bytes 8 limit (omega arith)) ∙ (take-take 4 (limit - 8) (drop 8 bytes) (omega arith) ∙ r.wave);
 }
 
 pub open_least : (bytes : List ℕ) (place : ℕ) → IsOpen bytes place → 12 ≤ place
@@ -61,11 +61,11 @@ pub open_cut : (bytes : List ℕ) (place limit : ℕ) → place ≤ limit → Is
 open_cut bytes place limit h o =
     let least = open_least bytes place o in
     record {
-        riff = riff_cut bytes limit (omega (arith, least)) o.riff;
-        passed = o.passed;
-        before = o.before;
-        same = take-take place limit bytes h ∙ (o.same ∙ ap (λ l. l ++ concat o.passed) (sym (take-take 12 limit bytes (omega (arith, least)))));
-        within = within_cut bytes place limit o.within h;
+      riff = riff_cut bytes limit (omega (arith, least)) o.riff;
+      passed = o.passed;
+      before = o.before;
+      same = take-take place limit bytes h ∙ (o.same ∙ ap (λ l. l ++ concat o.passed) (sym (take-take 12 limit bytes (omega (arith, least)))));
+      within = within_cut bytes place limit o.within h;
     }
 
 pub start_least : (bytes chunk : List ℕ) (place : ℕ) (f : IsFormatted bytes chunk place) → f.start ≤ place
@@ -79,15 +79,15 @@ pub formatted_cut : (bytes chunk : List ℕ) (place limit : ℕ) → place ≤ l
 formatted_cut bytes chunk place limit h f =
     let least = start_least bytes chunk place f in
     record {
-        start = f.start;
-        opened = open_cut bytes f.start limit (omega (arith, least)) f.opened;
-        whole = f.whole;
-        named = f.named;
-        accepted = f.accepted;
-        passed = f.passed;
-        behind = f.behind;
-        same = take-take place limit bytes h ∙ (f.same ∙ ap (λ l. l ++ (chunk ++ concat f.passed)) (sym (take-take f.start limit bytes (omega (arith, least)))));
-        within = within_cut bytes place limit f.within h;
+      start = f.start;
+      opened = open_cut bytes f.start limit (omega (arith, least)) f.opened;
+      whole = f.whole;
+      named = f.named;
+      accepted = f.accepted;
+      passed = f.passed;
+      behind = f.behind;
+      same = take-take place limit bytes h ∙ (f.same ∙ ap (λ l. l ++ (chunk ++ concat f.passed)) (sym (take-take f.start limit bytes (omega (arith, least)))));
+      within = within_cut bytes place limit f.within h;
     }
 
 pub reaches_cut : (bytes : List ℕ) (place limit : ℕ) → place ≤ limit → Reaches bytes place → Reaches (take limit bytes) place
@@ -118,16 +118,16 @@ open_more bytes place o nf nd h =
     let w = whole_length (size_of (drop place bytes)) in
     let chunk = chunk_at place bytes in
     let one : IsPassedBefore chunk = record {
-        whole = chunk_whole bytes place h;
-        no_format = λ e. nf (sym (chunk_name bytes place) ∙ e);
-        no_data = λ e. nd (sym (chunk_name bytes place) ∙ e);
+      whole = chunk_whole bytes place h;
+      no_format = λ e. nf (sym (chunk_name bytes place) ∙ e);
+      no_data = λ e. nd (sym (chunk_name bytes place) ∙ e);
     } in
     record {
-        riff = o.riff;
-        passed = o.passed ++ (chunk ∷ []);
-        before = All-append IsPassedBefore o.passed (chunk ∷ []) o.before (All-cons IsPassedBefore chunk [] one (All-nil IsPassedBefore));
-        same = take-add place w bytes ∙ (ap (λ l. l ++ chunk) o.same ∙ (append_assoc (take 12 bytes) (concat o.passed) chunk ∙ ap (λ l. take 12 bytes ++ l) (joined o.passed chunk)));
-        within = h;
+      riff = o.riff;
+      passed = o.passed ++ (chunk ∷ []);
+      before = All-append IsPassedBefore o.passed (chunk ∷ []) o.before (All-cons IsPassedBefore chunk [] one (All-nil IsPassedBefore));
+      same = take-add place w bytes ∙ (ap (λ l. l ++ chunk) o.same ∙ (append_assoc (take 12 bytes) (concat o.passed) chunk ∙ ap (λ l. take 12 bytes ++ l) (joined o.passed chunk)));
+      within = h;
     }
 
 pub formatted_more : (bytes format : List ℕ) (place : ℕ) → IsFormatted bytes format place → name_of (drop place bytes) ≢ codes "data"
@@ -136,21 +136,21 @@ formatted_more bytes format place f nd h =
     let w = whole_length (size_of (drop place bytes)) in
     let chunk = chunk_at place bytes in
     let one : IsPassedBehind chunk = record {
-        whole = chunk_whole bytes place h;
-        no_data = λ e. nd (sym (chunk_name bytes place) ∙ e);
+      whole = chunk_whole bytes place h;
+      no_data = λ e. nd (sym (chunk_name bytes place) ∙ e);
     } in
     record {
-        start = f.start;
-        opened = f.opened;
-        whole = f.whole;
-        named = f.named;
-        accepted = f.accepted;
-        passed = f.passed ++ (chunk ∷ []);
-        behind = All-append IsPassedBehind f.passed (chunk ∷ []) f.behind (All-cons IsPassedBehind chunk [] one (All-nil IsPassedBehind));
-        same = take-add place w bytes ∙ (ap (λ l. l ++ chunk) f.same
-        ∙ (append_assoc (take f.start bytes) (format ++ concat f.passed) chunk
-        ∙ ap (λ l. take f.start bytes ++ l) (append_assoc format (concat f.passed) chunk ∙ ap (λ l. format ++ l) (joined f.passed chunk))));
-        within = h;
+      start = f.start;
+      opened = f.opened;
+      whole = f.whole;
+      named = f.named;
+      accepted = f.accepted;
+      passed = f.passed ++ (chunk ∷ []);
+      behind = All-append IsPassedBehind f.passed (chunk ∷ []) f.behind (All-cons IsPassedBehind chunk [] one (All-nil IsPassedBehind));
+      same = take-add place w bytes ∙ (ap (λ l. l ++ chunk) f.same
+          ∙ (append_assoc (take f.start bytes) (format ++ concat f.passed) chunk
+          ∙ ap (λ l. take f.start bytes ++ l) (append_assoc format (concat f.passed) chunk ∙ ap (λ l. format ++ l) (joined f.passed chunk))));
+      within = h;
     }
 
 -- the `fmt ` chunk itself
@@ -159,15 +159,15 @@ pub formatted_first : (bytes : List ℕ) (start : ℕ) → IsOpen bytes start �
 formatted_first bytes start o named h fine =
     let w = whole_length (size_of (drop start bytes)) in
     record {
-        start = start;
-        opened = o;
-        whole = chunk_whole bytes start h;
-        named = chunk_name bytes start ∙ named;
-        accepted = fine;
-        passed = [];
-        behind = All-nil IsPassedBehind;
-        same = take-add start w bytes ∙ ap (λ l. take start bytes ++ l) (sym (append-nil (chunk_at start bytes)));
-        within = h;
+      start = start;
+      opened = o;
+      whole = chunk_whole bytes start h;
+      named = chunk_name bytes start ∙ named;
+      accepted = fine;
+      passed = [];
+      behind = All-nil IsPassedBehind;
+      same = take-add start w bytes ∙ ap (λ l. take start bytes ++ l) (sym (append-nil (chunk_at start bytes)));
+      within = h;
     }
 
 -- the place behind the 12-byte head

@@ -78,7 +78,7 @@ format_read bytes mid place front rest size n format middle left long least all 
     let there = subst (λ (p : ℕ). IsAt bytes p left) end at in
     let same = subst (λ (k : ℕ). take k mid ≡ take k (drop (place + 8) bytes)) all r.front in
     record {
-        at = there;
-        says = says ∙ (fields_same size (mid ++ drop front (replicate 40 0)) (body_of (chunk_at place bytes)) (slots bytes mid place front size long least same e there.within)
-        ∙ ap (λ s. fields_of s (body_of (chunk_at place bytes))) (e ∙ sym (body_long bytes place there.within)));
+      at = there;
+      says = says ∙ (fields_same size (mid ++ drop front (replicate 40 0)) (body_of (chunk_at place bytes)) (slots bytes mid place front size long least same e there.within)
+          ∙ ap (λ s. fields_of s (body_of (chunk_at place bytes))) (e ∙ sym (body_long bytes place there.within)));
     }

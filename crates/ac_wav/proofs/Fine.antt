@@ -97,9 +97,9 @@ fine f e =
     let most : f.channels ≤ 6 = leb-true f.channels 6 (and_right (leb 1 f.channels) (leb f.channels 6) few) in
     let layout = layout_fine f e least most in
     record {
-        least = least;
-        most = most;
-        bits_are = bits_fine f.bits common.1.1.1.1.1.0;
-        mode = layout.0;
-        count = layout.1;
+      least = least;
+      most = most;
+      bits_are = bits_fine f.bits common.1.1.1.1.1.0;
+      mode = layout.0;
+      count = layout.1;
     }

@@ -22,9 +22,9 @@ up_to_limit bytes taken limit into mid old left (Ok n) at below long short r =
     let all : n ≡ length (drop taken bytes) = r.all in
     let sum : taken + n ≡ length bytes = omega (arith, length-drop taken bytes) in
     record {
-        at = record { within = omega arith; left_is = r.left_is ∙ ap (λ l. Some l) (drop-drop n taken bytes) };
-        front = take-append-le n mid (drop (limit - taken) into) r.fits ∙ r.front;
-        end = λ _. sum;
+      at = record { within = omega arith; left_is = r.left_is ∙ ap (λ l. Some l) (drop-drop n taken bytes) };
+      front = take-append-le n mid (drop (limit - taken) into) r.fits ∙ r.front;
+      end = λ _. sum;
     }
 up_to_limit bytes taken limit into mid old left (Err fault) at below long short r = unread bytes taken limit (length into) fault at.within below short r
 
@@ -45,8 +45,8 @@ no_more o m p bytes into one n k told a b ends fits none =
     let zero_is : k ≡ 0 = omega arith in
     let long : k ≡ length (drop n bytes) = e (omega arith) in
     record {
-        all = omega (arith, long, a'.0, length-drop n bytes);
-        fits = fits;
-        front = a'.1;
-        left_is = b'.2 ∙ ap (λ j. Some (drop j (drop n bytes))) zero_is;
+      all = omega (arith, long, a'.0, length-drop n bytes);
+      fits = fits;
+      front = a'.1;
+      left_is = b'.2 ∙ ap (λ j. Some (drop j (drop n bytes))) zero_is;
     }

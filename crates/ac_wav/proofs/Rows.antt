@@ -56,16 +56,16 @@ count_is a start total n h inside most whole =
     let d : total / a ≡ start + rest / a = ap (λ x. x / a) e ∙ mul-add-div_right h start rest in
     elim (cases_lt n (1536 * a)) [
       | inl k ↦
-        let same : n ≡ rest = omega (arith, whole k) in
-        let q : n / a ≡ rest / a = ap (λ x. x / a) same in
-        let low : n / a < 1536 = div_below n a 1536 h k in
-        omega (arith, q, low, d)
+          let same : n ≡ rest = omega (arith, whole k) in
+          let q : n / a ≡ rest / a = ap (λ x. x / a) same in
+          let low : n / a < 1536 = div_below n a 1536 h k in
+          omega (arith, q, low, d)
       | inr k ↦
-        let same : n ≡ 1536 * a + 0 = omega arith in
-        let none : 0 / a ≡ 0 = div-eq_of_lt h in
-        let q : n / a ≡ 1536 + 0 / a = ap (λ x. x / a) same ∙ mul-add-div_right h 1536 0 in
-        let much : 1536 ≤ rest / a = le-div 1536 rest a h (omega arith) in
-        omega (arith, q, none, much, d)
+          let same : n ≡ 1536 * a + 0 = omega arith in
+          let none : 0 / a ≡ 0 = div-eq_of_lt h in
+          let q : n / a ≡ 1536 + 0 / a = ap (λ x. x / a) same ∙ mul-add-div_right h 1536 0 in
+          let much : 1536 ≤ rest / a = le-div 1536 rest a h (omega arith) in
+          omega (arith, q, none, much, d)
     ]
 
 lt_same : (a b c d : ℕ) → (a < b → c < d) → (c < d → a < b) → nat_lt a b ≡ nat_lt c d
@@ -89,11 +89,11 @@ row_same bytes head taken start n count p e q c t below =
     sample_same head (n / a) count (take n (drop taken bytes)) (drop head.taken bytes) c t (start + t)
     (lt_same t (n / a) (start + t) count (λ h. omega (arith, h, q)) (λ h. omega (arith, h, q, below)))
     (λ h k.
-        let room : offset_of head c t + width_of head ≤ n = offset_room head c t n p (true_lt t (n / a) k) in
-        let far : (start + t) * a ≡ start * a + t * a = add-mul start t a in
-        let off : taken + offset_of head c t ≡ head.taken + offset_of head c (start + t) = omega (arith, e, far) in
-        value_take head.bits n (offset_of head c t) (drop taken bytes) (two_widths head.bits p.bits_least p.bits_most p.bits_whole) room
-        ∙ ap (value_of head.bits) (drop-drop (offset_of head c t) taken bytes ∙ (ap (λ m. drop m bytes) off ∙ sym (drop-drop (offset_of head c (start + t)) head.taken bytes))))
+    let room : offset_of head c t + width_of head ≤ n = offset_room head c t n p (true_lt t (n / a) k) in
+    let far : (start + t) * a ≡ start * a + t * a = add-mul start t a in
+    let off : taken + offset_of head c t ≡ head.taken + offset_of head c (start + t) = omega (arith, e, far) in
+    value_take head.bits n (offset_of head c t) (drop taken bytes) (two_widths head.bits p.bits_least p.bits_most p.bits_whole) room
+    ∙ ap (value_of head.bits) (drop-drop (offset_of head c t) taken bytes ∙ (ap (λ m. drop m bytes) off ∙ sym (drop-drop (offset_of head c (start + t)) head.taken bytes))))
 
 pub samples_read : (bytes : List ℕ) (head : WavHead) (taken start n : ℕ) (piece : List ℕ) (rows : List (List ℤ)) (left : Option (List ℕ)) → IsOfProfile head → 0 < align_of head
     → taken ≡ head.taken + start * align_of head → n ≤ 1536 * align_of head → n ≤ length piece → PartRead bytes head taken n piece left
@@ -104,20 +104,20 @@ samples_read bytes head taken start n piece rows left p least e most fits r are 
     let q : n / a ≡ min 1536 (total / a - start) = count_is a start total n least (omega (arith, r.inside, e)) most (λ h. omega (arith, r.whole h, e)) in
     let long : length (take n piece) ≡ n = length-take-le n piece fits in
     record {
-        count = q;
-        rows_are = λ c below t here.
-            are c below t here
-            ∙ (ap (λ m. sample_in head (m / a) (take n piece) c t) long
-            ∙ (ap (λ l. sample_in head (n / a) l c t) r.front
-            ∙ row_same bytes head taken start n (total / a) p e q c t here));
-        at = r.at;
-        more = λ h.
-            let full : 1536 * a ≤ n = elim (cases_lt n (1536 * a)) [ inl k ↦ absurd (let low : n / a < 1536 = div_below n a 1536 least k in omega (arith, low, h)) | inr k ↦ k ] in
-            let same : n ≡ 1536 * a = omega arith in
-            ap (λ m. taken + m) same;
-        end = λ h.
-            let short : n < 1536 * a = elim (cases_lt n (1536 * a)) [ inl k ↦ k | inr k ↦ absurd (let much : 1536 ≤ n / a = le-div 1536 n a least k in omega (arith, much, h)) ] in
-            r.whole short;
+      count = q;
+      rows_are = λ c below t here.
+          are c below t here
+          ∙ (ap (λ m. sample_in head (m / a) (take n piece) c t) long
+          ∙ (ap (λ l. sample_in head (n / a) l c t) r.front
+          ∙ row_same bytes head taken start n (total / a) p e q c t here));
+      at = r.at;
+      more = λ h.
+          let full : 1536 * a ≤ n = elim (cases_lt n (1536 * a)) [ inl k ↦ absurd (let low : n / a < 1536 = div_below n a 1536 least k in omega (arith, low, h)) | inr k ↦ k ] in
+          let same : n ≡ 1536 * a = omega arith in
+          ap (λ m. taken + m) same;
+      end = λ h.
+          let short : n < 1536 * a = elim (cases_lt n (1536 * a)) [ inl k ↦ k | inr k ↦ absurd (let much : 1536 ≤ n / a = le-div 1536 n a least k in omega (arith, much, h)) ] in
+          r.whole short;
     }
 
 -- ---- the part that is asked for

@@ -31,8 +31,8 @@ cut_head bytes place limit r below more short =
     elim (Rattle.std.proofs.lemmas.Bool.cases_lt place limit) [
       | inl h ↦ (more, inl (sym long, inr (place, there, (omega (arith, long), inl (omega (arith, long))))))
       | inr h ↦
-        let e : place ≡ limit = omega arith in
-        (more, inr (sym long, subst (λ (p : ℕ). Reaches (take limit bytes) p) e there))
+          let e : place ≡ limit = omega arith in
+          (more, inr (sym long, subst (λ (p : ℕ). Reaches (take limit bytes) p) e there))
     ]
 
 pub no_chunk_stops : (bytes : List ℕ) (place limit : ℕ) (fault : WavFault) → Reaches bytes place → place ≤ limit → place ≤ length bytes → IsNoChunk bytes place limit fault → IsStopped bytes limit fault
@@ -60,46 +60,55 @@ cut_stops bytes place limit (Bad (Unsupported field value) at) r below within nd
 cut_stops bytes place limit ReadFault r below within nd u = tt
 cut_stops bytes place limit TooLong r below within nd u =
     let long : length (take limit bytes) ≡ limit = length_cut bytes limit (omega (arith, u.0)) in
-    let size = size_cut bytes place limit below in
-    (u.0, inl (sym long, inr (place, reaches_cut bytes place limit (omega arith) r,
-        (omega (arith, long), inr (omega (arith, long), (λ e. nd (sym (name_cut bytes place limit below) ∙ e)), omega (arith, long, u.1, ap padded size))))))
+    let size = size_cut bytes place limit below in (
+      u.0,
+      inl (
+        sym long,
+        inr (
+          place,
+          reaches_cut bytes place limit (omega arith) r,
+          (omega (arith, long), inr (omega (arith, long), (λ e. nd (sym (name_cut bytes place limit below) ∙ e)), omega (arith, long, u.1, ap padded size))),
+        ),
+      ),
+    )
 
 pub no_format_stops : (bytes : List ℕ) (place limit : ℕ) → IsOpen bytes place → place + 8 ≤ limit → place + 8 ≤ length bytes → name_of (drop place bytes) ≡ codes "data" → IsStopped bytes limit (Bad NoFmt place)
-no_format_stops bytes place limit o below within named =
-    ((o, record { long = within; named = named }),
-     (open_cut bytes place limit (omega arith) o, record { long = within_cut bytes (place + 8) limit within below; named = name_cut bytes place limit below ∙ named }))
+no_format_stops bytes place limit o below within named = (
+  (o, record { long = within; named = named }),
+  (open_cut bytes place limit (omega arith) o, record { long = within_cut bytes (place + 8) limit within below; named = name_cut bytes place limit below ∙ named }),
+)
 
 faulty : (bytes : List ℕ) (start : ℕ) (fault : Fault) → IsOpen bytes start → name_of (drop start bytes) ≡ codes "fmt " → start + whole_length (size_of (drop start bytes)) ≤ length bytes
     → fault_of (format_of (body_of (chunk_at start bytes))) ≡ Some fault → IsFaulty bytes fault.kind (start + fault.place)
 faulty bytes start fault o named within first =
     let long = chunk_long bytes start within in
     record {
-        start = start;
-        opened = o;
-        chunk = chunk_at start bytes;
-        whole = chunk_whole bytes start within;
-        named = chunk_name bytes start ∙ named;
-        within = omega (arith, long);
-        same = ap (λ n. take n (drop start bytes)) long;
-        fault = fault;
-        first = first;
-        kind_is = refl;
-        place_is = refl;
+      start = start;
+      opened = o;
+      chunk = chunk_at start bytes;
+      whole = chunk_whole bytes start within;
+      named = chunk_name bytes start ∙ named;
+      within = omega (arith, long);
+      same = ap (λ n. take n (drop start bytes)) long;
+      fault = fault;
+      first = first;
+      kind_is = refl;
+      place_is = refl;
     }
 
 faulty_cut : (bytes : List ℕ) (limit : ℕ) (kind : WavKind) (place : ℕ) (f : IsFaulty bytes kind place) → f.start + length f.chunk ≤ limit → IsFaulty (take limit bytes) kind place
 faulty_cut bytes limit kind place f h = record {
-    start = f.start;
-    opened = open_cut bytes f.start limit (omega arith) f.opened;
-    chunk = f.chunk;
-    whole = f.whole;
-    named = f.named;
-    within = within_cut bytes (f.start + length f.chunk) limit f.within h;
-    same = ap (take (length f.chunk)) (from_cut bytes f.start limit (omega arith)) ∙ (take-take (length f.chunk) (limit - f.start) (drop f.start bytes) (omega arith) ∙ f.same);
-    fault = f.fault;
-    first = f.first;
-    kind_is = f.kind_is;
-    place_is = f.place_is;
+  start = f.start;
+  opened = open_cut bytes f.start limit (omega arith) f.opened;
+  chunk = f.chunk;
+  whole = f.whole;
+  named = f.named;
+  within = within_cut bytes (f.start + length f.chunk) limit f.within h;
+  same = ap (take (length f.chunk)) (from_cut bytes f.start limit (omega arith)) ∙ (take-take (length f.chunk) (limit - f.start) (drop f.start bytes) (omega arith) ∙ f.same);
+  fault = f.fault;
+  first = f.first;
+  kind_is = f.kind_is;
+  place_is = f.place_is;
 }
 
 refused : (bytes : List ℕ) (kind : WavKind) (place : ℕ) → IsOfField kind → IsFaulty bytes kind place → Refuses bytes kind place
@@ -118,9 +127,10 @@ faulty_stops bytes place limit size format fault left o named e r below first k 
     let first' : fault_of (format_of (body_of (chunk_at place bytes))) ≡ Some fault = ap fault_of (sym r.says) ∙ sym first in
     let f = faulty bytes place fault o named r.at.within first' in
     let long : length (chunk_at place bytes) ≡ whole_length (size_of (drop place bytes)) = chunk_long bytes place r.at.within in
-    let room : place + length (chunk_at place bytes) ≤ limit = omega (arith, long, below, ap whole_length e) in
-    (refused bytes fault.kind (place + fault.place) k f,
-     refused (take limit bytes) fault.kind (place + fault.place) k (faulty_cut bytes limit fault.kind (place + fault.place) f room))
+    let room : place + length (chunk_at place bytes) ≤ limit = omega (arith, long, below, ap whole_length e) in (
+      refused bytes fault.kind (place + fault.place) k f,
+      refused (take limit bytes) fault.kind (place + fault.place) k (faulty_cut bytes limit fault.kind (place + fault.place) f room),
+    )
 
 -- the `fmt ` chunk was read, and all its tests hold
 pub found : (bytes : List ℕ) (place size end : ℕ) (format : Format) (left : Option (List ℕ)) → IsOpen bytes place → name_of (drop place bytes) ≡ codes "fmt " → size ≡ size_of (drop place bytes)
@@ -128,10 +138,10 @@ pub found : (bytes : List ℕ) (place size end : ℕ) (format : Format) (left : 
 found bytes place size end format left o named e r fine at =
     let same : end ≡ place + whole_length (size_of (drop place bytes)) = at ∙ ap (λ s. place + whole_length s) e in
     record {
-        chunk = chunk_at place bytes;
-        formatted = subst (λ (p : ℕ). IsFormatted bytes (chunk_at place bytes) p) (sym same) (formatted_first bytes place o named r.at.within (ap fault_of (sym r.says) ∙ fine));
-        says = r.says;
-        at = subst (λ (p : ℕ). IsAt bytes p left) (sym same) r.at;
+      chunk = chunk_at place bytes;
+      formatted = subst (λ (p : ℕ). IsFormatted bytes (chunk_at place bytes) p) (sym same) (formatted_first bytes place o named r.at.within (ap fault_of (sym r.says) ∙ fine));
+      says = r.says;
+      at = subst (λ (p : ℕ). IsAt bytes p left) (sym same) r.at;
     }
 
 -- a chunk of this size that isn't `data` wasn't read to its end
@@ -164,9 +174,10 @@ no_riff bytes riff place a b (inr h) = inr (h.0, a ∙ h.1, λ e. h.2 (sym b ∙
 pub no_riff_stops : (bytes riff : List ℕ) (limit place : ℕ) (left : Option (List ℕ)) → ReadsOn bytes 0 12 riff left → length riff ≡ 12 → 12 ≤ limit → IsNoRiff riff place → IsStopped bytes limit (Bad NotRiff place)
 no_riff_stops bytes riff limit place left r long below n =
     let e = riff_front bytes riff left r long in
-    let e' : riff ≡ take 12 (take limit bytes) = e ∙ sym (take-take 12 limit bytes below) in
-    ((r.at.within, no_riff bytes riff place (front_riff bytes riff e) (front_wave bytes riff e) n),
-     (within_cut bytes 12 limit r.at.within below, no_riff (take limit bytes) riff place (front_riff (take limit bytes) riff e') (front_wave (take limit bytes) riff e') n))
+    let e' : riff ≡ take 12 (take limit bytes) = e ∙ sym (take-take 12 limit bytes below) in (
+      (r.at.within, no_riff bytes riff place (front_riff bytes riff e) (front_wave bytes riff e) n),
+      (within_cut bytes 12 limit r.at.within below, no_riff (take limit bytes) riff place (front_riff (take limit bytes) riff e') (front_wave (take limit bytes) riff e') n),
+    )
 
 -- ---- from one chunk to the next
 
@@ -198,14 +209,14 @@ pub head_read : (bytes : List ℕ) (limit : ℕ) (found : Found) (samples : Samp
 head_read bytes limit found samples mid left head f d below says =
     let taken : head.taken ≡ samples.place = ap (λ (h : WavHead). h.taken) says in
     record {
-        is = record {
-            chunk = f.chunk;
-            place = d.place;
-            formatted = d.formatted;
-            at = record { long = omega (arith, d.at.within, d.place_is); named = d.named };
-            says = says ∙ (ap (λ g. head_of g samples.size samples.place) f.says
+      is = record {
+        chunk = f.chunk;
+        place = d.place;
+        formatted = d.formatted;
+        at = record { long = omega (arith, d.at.within, d.place_is); named = d.named };
+        says = says ∙ (ap (λ g. head_of g samples.size samples.place) f.says
             ∙ (ap (λ s. head_of (format_of (body_of f.chunk)) s samples.place) d.size_is ∙ ap (λ p. head_of (format_of (body_of f.chunk)) (size_of (drop d.place bytes)) p) d.place_is));
-        };
-        within = omega (arith, taken, below);
-        left_is = d.at.left_is ∙ ap (λ p. Some (drop p bytes)) (sym taken);
+      };
+      within = omega (arith, taken, below);
+      left_is = d.at.left_is ∙ ap (λ p. Some (drop p bytes)) (sym taken);
     }

@@ -84,14 +84,14 @@ data_size size = if size == 0xFFFFFFFF then None else Some size
 -- what a head says: its format, the size of its data, and the number of bytes before the data
 abbrev pub head_of : Format → ℕ → ℕ → WavHead
 head_of f size taken = record {
-    fscod = fscod_of f.rate;
-    acmod = acmod_of (layout_of f);
-    lfe = has_lfe (layout_of f);
-    bits = f.bits;
-    channels = f.channels;
-    order = order_of (acmod_of (layout_of f)) (has_lfe (layout_of f));
-    size = data_size size;
-    taken = taken;
+  fscod = fscod_of f.rate;
+  acmod = acmod_of (layout_of f);
+  lfe = has_lfe (layout_of f);
+  bits = f.bits;
+  channels = f.channels;
+  order = order_of (acmod_of (layout_of f)) (has_lfe (layout_of f));
+  size = data_size size;
+  taken = taken;
 }
 
 -- the fields of a head are those of a WAV of the profile

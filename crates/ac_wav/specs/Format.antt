@@ -15,15 +15,15 @@ number_at place n bytes = little_number n (drop place bytes)
 -- the fields of a `fmt ` chunk of this size in its bytes. Bytes per second at 8, and valid bits at 18, are ignored.
 abbrev pub fields_of : ℕ → List ℕ → Format
 fields_of size body = record {
-    size = size;
-    tag = number_at 0 2 body;
-    channels = number_at 2 2 body;
-    rate = number_at 4 4 body;
-    align = number_at 12 2 body;
-    bits = number_at 14 2 body;
-    extra = number_at 16 2 body;
-    mask = number_at 20 4 body;
-    subformat = number_at 24 16 body;
+  size = size;
+  tag = number_at 0 2 body;
+  channels = number_at 2 2 body;
+  rate = number_at 4 4 body;
+  align = number_at 12 2 body;
+  bits = number_at 14 2 body;
+  extra = number_at 16 2 body;
+  mask = number_at 20 4 body;
+  subformat = number_at 24 16 body;
 }
 
 -- the fields of a `fmt ` chunk with these bytes

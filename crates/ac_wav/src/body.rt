@@ -97,6 +97,7 @@ fn read_samples<S: Source>(
 }
 
 /// The samples of a WAV behind its head. It keeps its first refusal.
+#[derive(Drop)]
 pub struct WavBody {
     head: WavHead,
     limit: u64,
@@ -181,3 +182,6 @@ impl WavBody {
         }
     }
 }
+
+#[cfg(test)]
+mod tests;

@@ -101,12 +101,7 @@ fn read_format<S: Source>(
 }
 
 /// Reads and tests the first `fmt ` chunk, which begins at `place`.
-fn accept<S: Source>(
-    input: &mut S,
-    place: u64,
-    limit: u64,
-    size: u32,
-) -> Result<Found, WavFault>
+fn accept<S: Source>(input: &mut S, place: u64, limit: u64, size: u32) -> Result<Found, WavFault>
     requires { place + 8 ≤ limit }
     ensures within { IfOk result (λ found. found.end ≤ limit) }
     ensures fine { IfOk result (λ found. fault_of found.format ≡ None) }
@@ -251,3 +246,6 @@ impl WavHead {
         Ok(head(&found.format, &samples))
     }
 }
+
+#[cfg(test)]
+mod tests;

@@ -24,7 +24,11 @@ fn signed(word: u32) -> i32
     ensures bound { unsigned_abs result ≤ 2 ^ 23 }
 {
     let wide = word as i32;
-    if wide < 8388608 { wide } else { wide - 16777216 }
+    if wide < 8388608 {
+        wide
+    } else {
+        wide - 16777216
+    }
 }
 
 /// The sample in the first bytes.

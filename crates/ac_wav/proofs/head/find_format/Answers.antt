@@ -21,12 +21,12 @@ returns-in-Samples-clause-told g c = λ bytes o at.
 
 pub loop-chunk-preserved : goal.loop-chunk-preserved
 loop-chunk-preserved g c = record {
-    room = c.in_ok-place-in-Other.ensures.within;
-    told = λ bytes o at.
-        let before = c.loop-chunk.invariant.told bytes o at in
-        let r = c.in_ok-chunk.ensures.told bytes before.1 in
-        let named = subst (λ (n : Name). NameIs n (name_of (drop c.loop-chunk.place bytes))) c.in-Other.is r.named in
-        let passed = c.in_ok-place-in-Other.ensures.told bytes (inl before.0) r.at named.1 r.size_is in
-        (open_next bytes c.loop-chunk.place c.in_ok-place-in-Other.place c.in_ok-chunk.chunk.size _ before.0 named.0 named.1 r.size_is c.in_ok-place-in-Other.ensures.value passed, passed);
-    faults = omega (arith, c.in_ok-place-in-Other.ensures.never_falls, c.in_ok-chunk.ensures.never_falls, c.loop-chunk.invariant.faults);
+  room = c.in_ok-place-in-Other.ensures.within;
+  told = λ bytes o at.
+      let before = c.loop-chunk.invariant.told bytes o at in
+      let r = c.in_ok-chunk.ensures.told bytes before.1 in
+      let named = subst (λ (n : Name). NameIs n (name_of (drop c.loop-chunk.place bytes))) c.in-Other.is r.named in
+      let passed = c.in_ok-place-in-Other.ensures.told bytes (inl before.0) r.at named.1 r.size_is in
+      (open_next bytes c.loop-chunk.place c.in_ok-place-in-Other.place c.in_ok-chunk.chunk.size _ before.0 named.0 named.1 r.size_is c.in_ok-place-in-Other.ensures.value passed, passed);
+  faults = omega (arith, c.in_ok-place-in-Other.ensures.never_falls, c.in_ok-chunk.ensures.never_falls, c.loop-chunk.invariant.faults);
 }

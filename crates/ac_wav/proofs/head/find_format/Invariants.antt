@@ -5,9 +5,9 @@ use Rattle.ac_wav.proofs.head.find_format.Given as goal
 
 abbrev pub invariant-loop-chunk : goal.invariant-loop-chunk
 invariant-loop-chunk g l = record {
-    room : l.place ≤ l.limit;
-    told : (bytes : List ℕ) → IsOpen bytes 12 → IsAt bytes 12 (g.S.Source.left l.initial.input) → IsOpen bytes l.place × IsAt bytes l.place (g.S.Source.left l.input);
-    faults : g.S.Source.faults l.initial.input ≤ g.S.Source.faults l.input;
+  room : l.place ≤ l.limit;
+  told : (bytes : List ℕ) → IsOpen bytes 12 → IsAt bytes 12 (g.S.Source.left l.initial.input) → IsOpen bytes l.place × IsAt bytes l.place (g.S.Source.left l.input);
+  faults : g.S.Source.faults l.initial.input ≤ g.S.Source.faults l.input;
 }
 
 abbrev pub decreases-loop-chunk : goal.decreases-loop-chunk

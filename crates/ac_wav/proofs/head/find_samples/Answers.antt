@@ -28,12 +28,12 @@ returns-in_err-place-in_default-clause-told g c = λ bytes chunk f at.
 
 pub loop-chunk-preserved : goal.loop-chunk-preserved
 loop-chunk-preserved g c = record {
-    room = c.in_ok-place-in_default.ensures.within;
-    told = λ bytes chunk f at.
-        let before = c.loop-chunk.invariant.told bytes chunk f at in
-        let r = c.in_ok-chunk.ensures.told bytes before.1 in
-        let nd = no_data c.in_ok-chunk.chunk.name _ r.named c.in_default.not-Samples in
-        let passed = c.in_ok-place-in_default.ensures.told bytes (inr (chunk, before.0)) r.at nd r.size_is in
-        (formatted_next bytes chunk c.loop-chunk.place c.in_ok-place-in_default.place c.in_ok-chunk.chunk.size _ before.0 nd r.size_is c.in_ok-place-in_default.ensures.value passed, passed);
-    faults = omega (arith, c.in_ok-place-in_default.ensures.never_falls, c.in_ok-chunk.ensures.never_falls, c.loop-chunk.invariant.faults);
+  room = c.in_ok-place-in_default.ensures.within;
+  told = λ bytes chunk f at.
+      let before = c.loop-chunk.invariant.told bytes chunk f at in
+      let r = c.in_ok-chunk.ensures.told bytes before.1 in
+      let nd = no_data c.in_ok-chunk.chunk.name _ r.named c.in_default.not-Samples in
+      let passed = c.in_ok-place-in_default.ensures.told bytes (inr (chunk, before.0)) r.at nd r.size_is in
+      (formatted_next bytes chunk c.loop-chunk.place c.in_ok-place-in_default.place c.in_ok-chunk.chunk.size _ before.0 nd r.size_is c.in_ok-place-in_default.ensures.value passed, passed);
+  faults = omega (arith, c.in_ok-place-in_default.ensures.never_falls, c.in_ok-chunk.ensures.never_falls, c.loop-chunk.invariant.faults);
 }
