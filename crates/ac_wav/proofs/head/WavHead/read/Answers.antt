@@ -1,0 +1,22 @@
+use Rattle.std.proofs.Common.{◌≡◌, ◌≤◌, ℕ, List, arith}
+use Rattle.std.proofs.lemmas.Result.{err_from_is_err_and}
+use Rattle.ac_wav.proofs.Chunks.{open_first}
+use Rattle.ac_wav.proofs.Fine.{fine}
+use Rattle.ac_wav.proofs.Stops.{head_read}
+use Rattle.ac_wav.proofs.head.WavHead.read.Goals as goal
+
+pub returns-in_err-samples-clause-told : goal.returns-in_err-samples-clause-told
+returns-in_err-samples-clause-told g c = λ bytes e.
+    let p = err_from_is_err_and c.from_residual-in_err-samples.result c.from_residual-in_err-samples.ensures.1 in
+    let r = c.in_ok-read_riff.ensures.told bytes e in
+    let f = c.in_ok-found.ensures.told bytes (open_first bytes r.0) r.1 in
+    rw (p.1, p.2) (c.in_err-samples.ensures.told bytes f.chunk f.formatted f.at)
+
+pub head-requires : goal.head-requires
+head-requires g c = fine c.in_ok-found.found.format c.in_ok-found.ensures.fine
+
+pub returns-clause-told : goal.returns-clause-told
+returns-clause-told g c = λ bytes e.
+    let r = c.in_ok-read_riff.ensures.told bytes e in
+    let f = c.in_ok-found.ensures.told bytes (open_first bytes r.0) r.1 in
+    head_read bytes c.args.limit c.in_ok-found.found c.in_ok-samples.samples _ _ c.head.result f (c.in_ok-samples.ensures.told bytes f.chunk f.formatted f.at) c.in_ok-samples.ensures.within c.head.ensures.says

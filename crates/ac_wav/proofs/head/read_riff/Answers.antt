@@ -1,0 +1,16 @@
+use Rattle.std.proofs.Common.{◌≡◌, ◌≤◌, ℕ, List, Some, length, arith, drop}
+use Rattle.ac_wav.specs.Pieces.{IsAt}
+use Rattle.ac_wav.proofs.Stops.{riff_read, no_riff_stops}
+use Rattle.ac_wav.proofs.head.read_riff.Goals as goal
+
+pub returns-in-None-clause-told : goal.returns-in-None-clause-told
+returns-in-None-clause-told g c = λ bytes e.
+    let at : IsAt bytes 0 (g.S.Source.left c.args.input.now) = record { within = omega arith; left_is = e } in
+    let r = c.in_ok-read_exact.ensures.told bytes at in
+    riff_read bytes c.read_exact.new.into _ r c.read_exact.auto.into c.in-None.ensures.0 c.in-None.ensures.1
+
+pub returns-in-Some-clause-told : goal.returns-in-Some-clause-told
+returns-in-Some-clause-told g c = λ bytes e.
+    let at : IsAt bytes 0 (g.S.Source.left c.args.input.now) = record { within = omega arith; left_is = e } in
+    let r = c.in_ok-read_exact.ensures.told bytes at in
+    no_riff_stops bytes c.read_exact.new.into c.args.limit c.in-Some.place _ r c.read_exact.auto.into c.in_ok-read_exact.ensures.within c.in-Some.ensures

@@ -1,0 +1,14 @@
+use Rattle.std.proofs.Common.{◌≡◌, ◌-◌, ◌<◌, length, arith, drop, take, length-take, subst, ℕ, List}
+use Rattle.std.specs.Prelude.{MatchResult}
+use Rattle.ac_wav.specs.Pieces.{ReadsAll, IsLonger}
+use Rattle.ac_wav.proofs.Limits.{up_to_limit}
+use Rattle.ac_wav.proofs.pieces.read_within.Goals as goal
+
+pub returns-clause-told : goal.returns-clause-told
+returns-clause-told g c = λ bytes at.
+    let short : c.args.limit - c.args.taken < length c.args.into.now = omega arith in
+    let room : length (take (c.args.limit - c.args.taken) c.args.into.now) ≡ c.args.limit - c.args.taken = omega (arith, length-take (c.args.limit - c.args.taken) c.args.into.now) in
+    let long : length c.read_to_limit.new.into ≡ c.args.limit - c.args.taken = omega (arith, c.read_to_limit.auto.into, room) in
+    let read = c.read_to_limit.ensures.told (drop c.args.taken bytes) at.left_is in
+    let same = subst (λ (r : ℕ). MatchResult c.read_to_limit.result (λ n. ReadsAll (drop c.args.taken bytes) n c.read_to_limit.new.into (g.S.Source.left c.read_to_limit.new.input)) (IsLonger (drop c.args.taken bytes) r)) room read in
+    up_to_limit bytes c.args.taken c.args.limit c.args.into.now c.read_to_limit.new.into _ _ c.read_to_limit.result at c.requires long short same

@@ -1,0 +1,6 @@
+pub mod Layout
+pub mod Format
+pub mod Form
+pub mod Refusal
+pub mod Pieces
+pub mod Samples

@@ -1,0 +1,126 @@
+use super::*;
+use ac_io::{MemSource, StdSource};
+use std::test::Fail;
+
+/// A head of this many channels and bits, whose data begin at byte 44.
+fn head(acmod: u8, lfe: bool, bits: u8, size: Option<u32>) -> WavHead
+    requires acmod_least { 1 ≤ acmod }
+    requires acmod_most { acmod ≤ 7 }
+    requires bits_least { 16 ≤ bits }
+    requires bits_most { bits ≤ 24 }
+    requires bits_whole { bits % 8 ≡ 0 }
+    ensures profile { IsOfProfile result }
+    ensures taken { result.taken ≡ 44 }
+{
+    WavHead {
+        fscod: 0,
+        acmod,
+        lfe,
+        bits,
+        channels: crate::layout::channels(acmod, lfe),
+        order: crate::layout::order(acmod, lfe),
+        size,
+        taken: 44,
+    }
+}
+
+#[test]
+fn samples_of_16_bits(rt: HostRuntime) {
+    let bytes = [0, 128, 255, 127, 1, 0, 255, 255, 9];
+    let mut source = StdSource::new(bytes.as_slice());
+    let mut body = WavBody::new(&head(1, false, 16, Some(9)), 1000);
+    let mut out = [[7; 1536]; 6];
+    assert_eq!(rt; body.samples(&mut source, &mut out), Ok(4));
+    assert!(rt; out[0][..5] == [-8388608, 8388352, 256, -256, 0]);
+    assert!(rt; out[0][1535] == 0 && out[1][0] == 0 && out[5][1535] == 0);
+    // after the end, without a read
+    let mut more = StdSource::new(bytes.as_slice());
+    assert_eq!(rt; body.samples(&mut more, &mut out), Ok(0));
+    assert!(rt; out[0][0] == 0);
+    let mut rest = [0; 10];
+    assert_eq!(rt; ac_io::fill(&mut more, &mut rest), Ok(9));
+}
+
+#[test]
+fn samples_of_24_bits_in_coding_order(rt: HostRuntime) {
+    // 3/2 with LFE: L R C LFE SL SR in the WAV; and a rest of less than one align
+    let bytes = [
+        0, 0, 128, 255, 255, 127, 1, 0, 0, 2, 0, 0, 255, 255, 255, 4, 0, 0, 9, 9,
+    ];
+    let mut source = StdSource::new(bytes.as_slice());
+    let mut body = WavBody::new(&head(7, true, 24, None), 1000);
+    let mut out = [[7; 1536]; 6];
+    assert_eq!(rt; body.samples(&mut source, &mut out), Ok(1));
+    for (c, sample) in [-8388608, 1, 8388607, -1, 4, 2].iter().enumerate() {
+        assert!(rt; c < 6 && out[c][0] == *sample && out[c][1] == 0, "{c}");
+    }
+}
+
+#[test]
+fn whole_frames_and_a_rest(rt: HostRuntime) -> Result<(), Fail> {
+    let bytes = [1; 3072 + 3];
+    let mut source = MemSource::new(bytes.to_vec(rt.alloc())?, [].to_vec(rt.alloc())?);
+    let mut body = WavBody::new(&head(1, false, 16, None), 44 + 3075);
+    let mut out = [[0; 1536]; 6];
+    assert_eq!(rt; body.samples(&mut source, &mut out), Ok(1536));
+    assert!(rt; out[0][1535] == 257 * 256);
+    assert_eq!(rt; body.samples(&mut source, &mut out), Ok(1));
+    assert!(rt; out[0][0] == 257 * 256 && out[0][1] == 0);
+    assert_eq!(rt; body.samples(&mut source, &mut out), Ok(0));
+    Ok(())
+}
+
+#[test]
+fn samples_short(rt: HostRuntime) {
+    let bytes = [1, 0, 2, 0, 3, 0];
+    let mut source = StdSource::new(bytes.as_slice());
+    let mut body = WavBody::new(&head(1, false, 16, Some(8)), 1000);
+    let mut out = [[0; 1536]; 6];
+    assert_eq!(rt;
+        body.samples(&mut source, &mut out),
+        Err(WavFault::Bad(WavKind::Short, 50))
+    );
+}
+
+#[test]
+fn samples_past_limit(rt: HostRuntime) {
+    let bytes = [1, 0, 2, 0, 3, 0];
+    for size in [None, Some(6)] {
+        let mut source = StdSource::new(bytes.as_slice());
+        let mut body = WavBody::new(&head(1, false, 16, size), 49);
+        let mut out = [[0; 1536]; 6];
+        assert_eq!(rt; body.samples(&mut source, &mut out), Err(WavFault::TooLong));
+        // the same refusal, without a read
+        let mut more = StdSource::new(bytes.as_slice());
+        assert_eq!(rt; body.samples(&mut more, &mut out), Err(WavFault::TooLong));
+        let mut rest = [0; 7];
+        assert_eq!(rt; ac_io::fill(&mut more, &mut rest), Ok(6));
+    }
+}
+
+#[test]
+fn samples_within_limit(rt: HostRuntime) {
+    let bytes = [1, 0, 2, 0, 3, 0];
+    for (size, limit) in [(None, 50), (Some(6), 50), (Some(4), 48)] {
+        let mut source = StdSource::new(bytes.as_slice());
+        let mut body = WavBody::new(&head(1, false, 16, size), limit);
+        let mut out = [[0; 1536]; 6];
+        assert!(rt; body.samples(&mut source, &mut out) == Ok(if limit == 50 { 3 } else { 2 }));
+    }
+}
+
+#[test]
+fn a_failed_read_is_kept(rt: HostRuntime) -> Result<(), Fail> {
+    let mut source = MemSource::new([1, 0, 2, 0].to_vec(rt.alloc())?, [0].to_vec(rt.alloc())?);
+    let mut body = WavBody::new(&head(1, false, 16, Some(4)), 1000);
+    let mut out = [[0; 1536]; 6];
+    assert_eq!(rt;
+        body.samples(&mut source, &mut out),
+        Err(WavFault::ReadFault)
+    );
+    assert_eq!(rt;
+        body.samples(&mut source, &mut out),
+        Err(WavFault::ReadFault)
+    );
+    Ok(())
+}

@@ -1,0 +1,18 @@
+//! RIFF WAVE: a reader of linear PCM, and the bytes of decoded sound.
+//!
+//! A head is read chunk by chunk from a source of bytes that never seeks; what is no WAV is refused
+//! with the first rule that fails and the place where it fails.
+#![tactic(auto)]
+
+mod body;
+mod chunk;
+mod fault;
+mod format;
+mod head;
+mod layout;
+mod pieces;
+mod samples;
+
+pub use body::WavBody;
+pub use fault::{Field, WavFault, WavKind};
+pub use head::WavHead;
