@@ -1,6 +1,16 @@
 -- What the codes of the bit allocation parameters stand for (A/52 5.4.3.40 to 5.4.3.49, 7.2.2.1).
-use Rattle.std.specs.Prelude.{ℕ, ◌+◌, ◌*◌, ℤ, pos, negsuc, List, [], ◌∷◌, slice_index, slice_index_or}
+use Rattle.std.specs.Prelude.{ℕ, ◌+◌, ◌*◌, ◌≤◌, ℤ, pos, negsuc, List, [], ◌∷◌, slice_index, slice_index_or}
 use Rattle.ac_alloc.specs.declared.params.Params.{Params}
+
+-- each within the width of its field
+abbrev pub IsParams : Params → Type 0
+IsParams p =
+    (p.fscod ≤ 2) × (p.sdcycod ≤ 3) × (p.fdcycod ≤ 3) × (p.sgaincod ≤ 3) × (p.dbpbcod ≤ 3) × (p.floorcod ≤ 7) × (p.fgaincod ≤ 7) × (p.cplfleak ≤ 7) × (p.cplsleak ≤ 7)
+
+-- those of the encoder
+abbrev pub encoder_params : ℕ → Params
+encoder_params fscod =
+    record { fscod = fscod; sdcycod = 2; fdcycod = 1; sgaincod = 1; dbpbcod = 2; floorcod = 7; fgaincod = 4; cplfleak = 0; cplsleak = 0 }
 
 -- by sdcycod (Table 7.6)
 abbrev pub slow_decays : List ℕ

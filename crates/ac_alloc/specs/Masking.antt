@@ -1,9 +1,10 @@
 -- The masking curve of a coded channel (A/52 7.2.2.5).
-use Rattle.std.specs.Prelude.{ℕ, ◌/◌, ◌-◌, ◌≤◌, ℤ, pos, negsuc, ◌+ℤ◌, ◌≤ℤ◌, unsigned_abs, List, slice_index, if◌then◌else◌, nat_lt}
+use Rattle.std.specs.Prelude.{ℕ, ◌/◌, ◌-◌, ◌≤◌, ℤ, pos, negsuc, ◌+ℤ◌, ◌≤ℤ◌, unsigned_abs, List, slice_index, slice_index_or, if◌then◌else◌, nat_lt}
 use Rattle.std.specs.Int.{int_max}
 use Rattle.ac_base.specs.declared.spans.Span.{Span}
 use Rattle.ac_base.specs.Allocation.{masktab_list, hth_list}
 use Rattle.ac_alloc.specs.declared.params.Params.{Params}
+use Rattle.ac_alloc.specs.declared.mask.Mask.{Mask}
 use Rattle.ac_alloc.specs.Codes.{knee}
 use Rattle.ac_alloc.specs.Integration.{bndpsd}
 use Rattle.ac_alloc.specs.Excitation.{excite_by}
@@ -31,3 +32,6 @@ IsLevel m = (pos 0 ≤ℤ m) × (unsigned_abs m ≤ 5120)
 
 abbrev pub IsFloor : ℤ → Type 0
 IsFloor f = (negsuc 2047 ≤ℤ f) × (f ≤ℤ pos 752)
+
+abbrev pub IsMask : Mask → Type 0
+IsMask mask = ((b : ℕ) → IsLevel (slice_index_or mask.m b (pos 0))) × IsFloor mask.floor

@@ -2,6 +2,7 @@
 ghost use Rattle.std.specs.Prelude.{◌≡◌, ◌<◌, ◌≤◌, ◌+◌, ◌*◌, ◌-◌, ◌^◌, ℕ, ℤ, pos, ◌-ℤ◌, ◌≤ℤ◌, unsigned_abs, slice_index, slice_index_or, if◌then◌else◌};
 ghost use Rattle.std.specs.Int.{int_max};
 ghost use Rattle.ac_alloc.specs.Excitation.{joined, excite, excite_coupling, excite_by, AreBands};
+ghost use Rattle.ac_alloc.specs.Codes.{IsParams};
 
 use crate::leaks::leaks;
 use crate::lowcomp::{find_begin, lowcomps};
@@ -68,6 +69,7 @@ fn greater_leak(fast: i32, slow: i32) -> i32
 
 /// The excitation of each band of a full channel or of LFE, up to but not `to`.
 fn excite_channel(p: &Params, bndpsd: &[u16; 50], lfe: bool, to: usize, out: &mut [i32; 50])
+    requires params { IsParams p.now }
     requires few { to ≤ (if lfe then 7 else 50) }
     requires some { (if lfe then 7 else 22) ≤ to }
     requires bounds { (b : ℕ) → slice_index bndpsd.now b ≤ 4544 }
@@ -120,6 +122,7 @@ fn excite_coupling_channel(
     to: usize,
     out: &mut [i32; 50],
 )
+    requires params { IsParams p.now }
     requires few { to ≤ 50 }
     requires order { from ≤ to }
     requires bounds { (b : ℕ) → slice_index bndpsd.now b ≤ 4544 }
@@ -160,6 +163,7 @@ pub(crate) fn excite_span(
     to: usize,
     out: &mut [i32; 50],
 )
+    requires params { IsParams p.now }
     requires bands { AreBands lead from to }
     requires bounds { (b : ℕ) → slice_index bndpsd.now b ≤ 4544 }
     ensures values { (b : ℕ) → from ≤ b → b < to → slice_index_or out.new b (pos 0) ≡ excite_by lead p.now from (λ j. slice_index bndpsd.now j) b }

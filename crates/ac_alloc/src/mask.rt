@@ -1,7 +1,7 @@
 //! The masking curve of a coded channel (A/52 7.2.2.5).
-ghost use Rattle.std.specs.Prelude.{◌≡◌, ◌<◌, ◌≤◌, ◌+◌, ◌*◌, ◌-◌, ◌^◌, ℕ, ℤ, pos, ◌-ℤ◌, ◌≤ℤ◌, unsigned_abs, slice_index, slice_index_or, if◌then◌else◌};
-ghost use Rattle.ac_alloc.specs.Masking.{masked, IsLevel, IsFloor, mask, first_band, last_band};
-ghost use Rattle.ac_alloc.specs.Codes.{knee, floor_of};
+ghost use Rattle.std.specs.Prelude.{◌≡◌, ◌⊎◌, ◌<◌, ◌≤◌, ◌+◌, ◌*◌, ◌-◌, ◌^◌, ℕ, ℤ, pos, ◌-ℤ◌, ◌≤ℤ◌, unsigned_abs, slice_index, slice_index_or, if◌then◌else◌};
+ghost use Rattle.ac_alloc.specs.Masking.{masked, IsLevel, IsMask, mask, first_band, last_band};
+ghost use Rattle.ac_alloc.specs.Codes.{knee, floor_of, IsParams};
 ghost use Rattle.ac_base.specs.Shape.{IsSpan};
 ghost use Rattle.ac_alloc.specs.Integration.{AreExponents};
 ghost use Rattle.ac_base.specs.Allocation.{hth_list};
@@ -14,21 +14,22 @@ use ac_base::{Span, band_of, hearing};
 /// The masks of the bands of a coded channel, and the floor under them, in 128ths of 6 dB.
 #[derive(Clone, Copy, Debug, PartialEq, Eq)]
 pub struct Mask {
-    /// By band; what stands at bands outside the channel is no mask.
+    /// By band; 0 at bands outside the channel.
     pub m: [i32; 50],
     /// The floor, by floorcod.
     pub floor: i32,
-    ghost levels: { (b : ℕ) → IsLevel (slice_index_or m b (pos 0)) },
-    ghost floored: { IsFloor floor },
 }
 
 impl Mask {
     /// The masks of the bands of a span, by the exponents of its bins; others aren't read.
     pub fn of(p: &Params, span: &Span, exps: &[u8; 256]) -> Mask
+        requires params { IsParams p.now }
         requires span { IsSpan span.now }
         requires exps { AreExponents span.now.start span.now.end exps.now }
         ensures masks { (b : ℕ) → first_band span.now ≤ b → b ≤ last_band span.now → slice_index_or result.m b (pos 0) ≡ mask p.now span.now exps.now b }
+        ensures rest { (b : ℕ) → (b < first_band span.now) ⊎ (last_band span.now < b) → slice_index_or result.m b (pos 0) ≡ pos 0 }
         ensures floor { result.floor ≡ floor_of p.now }
+        ensures bounds { IsMask result }
     {
         let mut bndpsd = [0u16; 50];
         integrate(exps, span.start, span.end, &mut bndpsd);
@@ -72,10 +73,13 @@ fn masks(
     to: usize,
     out: &mut [i32; 50],
 )
+    requires params { IsParams p.now }
     requires few { to ≤ 50 }
+    requires order { from ≤ to }
     requires excite { (b : ℕ) → from ≤ b → b < to → unsigned_abs (slice_index_or excite.now b (pos 0)) ≤ 4416 }
     requires levels { (b : ℕ) → IsLevel (slice_index_or out.old b (pos 0)) }
     ensures values { (b : ℕ) → from ≤ b → b < to → slice_index_or out.new b (pos 0) ≡ masked (slice_index_or excite.now b (pos 0)) (knee p.now) (slice_index bndpsd.now b) (slice_index (hth_list p.now.fscod) b) }
+    ensures rest { (b : ℕ) → (b < from) ⊎ (to ≤ b) → slice_index_or out.new b (pos 0) ≡ slice_index_or out.old b (pos 0) }
     ensures levels { (b : ℕ) → IsLevel (slice_index_or out.new b (pos 0)) }
 {
     let knee = p.knee();

@@ -1,7 +1,8 @@
 //! The parameters of the bit allocation, and what their codes stand for (A/52 5.4.3.40 to 5.4.3.49, 7.2.2.1).
 ghost use Rattle.std.specs.Prelude.{◌≡◌, ◌≤◌, ◌+◌, ◌*◌, ◌-◌, ℕ, slice_index, slice_index_or, pos};
 
-/// The parameters of a coded channel's bit allocation in a block, each within the width of its field.
+/// The parameters of a coded channel's bit allocation in a block. Calls that take them ask that each is within the
+/// width of its field: fscod at most 2, those of two bits at most 3, those of three bits at most 7.
 #[derive(Clone, Copy, Debug, PartialEq, Eq)]
 pub struct Params {
     /// The sample rate: 0 for 48 kHz, 1 for 44.1 kHz, 2 for 32 kHz.
@@ -22,7 +23,6 @@ pub struct Params {
     pub cplfleak: u8,
     /// The slow leak of the coupling channel before its first band.
     pub cplsleak: u8,
-    ghost within: { (fscod ≤ 2) × (sdcycod ≤ 3) × (fdcycod ≤ 3) × (sgaincod ≤ 3) × (dbpbcod ≤ 3) × (floorcod ≤ 7) × (fgaincod ≤ 7) × (cplfleak ≤ 7) × (cplsleak ≤ 7) },
 }
 
 /// By sdcycod (A/52 Table 7.6).
@@ -41,15 +41,14 @@ static KNEES: [u16; 4] = [0, 0x700, 0x900, 0xb00];
 static FLOORS: [i32; 8] = [0x2f0, 0x2b0, 0x270, 0x230, 0x1f0, 0x170, 0x0f0, -2048];
 
 impl Params {
-    ghost use Rattle.ac_alloc.specs.Codes.{fast_gain, slow_gain, fast_decay, slow_decay, fast_start, slow_start, knee, floors};
+    ghost use Rattle.ac_alloc.specs.Masking.{IsFloor};
+    ghost use Rattle.ac_alloc.specs.Codes.{fast_gain, slow_gain, fast_decay, slow_decay, fast_start, slow_start, knee, floor_of, IsParams, encoder_params};
 
     /// The parameters with which the encoder writes at a sample rate; the coupling leaks start lowest.
     pub fn encoder(fscod: u8) -> Params
         requires { fscod ≤ 2 }
-        ensures fscod { result.fscod ≡ fscod }
-        ensures decays { (result.sdcycod ≡ 2) × (result.fdcycod ≡ 1) }
-        ensures levels { (result.sgaincod ≡ 1) × (result.dbpbcod ≡ 2) × (result.floorcod ≡ 7) × (result.fgaincod ≡ 4) }
-        ensures coupling { (result.cplfleak ≡ 0) × (result.cplsleak ≡ 0) }
+        ensures params { result ≡ encoder_params fscod }
+        ensures within { IsParams result }
     {
         Params {
             fscod,
@@ -66,6 +65,7 @@ impl Params {
 
     /// How far the fast leak stands below the density of a band (A/52 Table 7.11).
     pub(crate) fn fast_gain(&self) -> u16
+        requires { IsParams self.now }
         ensures value { result ≡ fast_gain self.now }
         ensures least { 128 ≤ result }
         ensures most { result ≤ 2000 }
@@ -75,6 +75,7 @@ impl Params {
 
     /// How far the slow leak stands below the density of a band.
     pub(crate) fn slow_gain(&self) -> u16
+        requires { IsParams self.now }
         ensures value { result ≡ slow_gain self.now }
         ensures least { 128 ≤ result }
         ensures most { result ≤ 2000 }
@@ -84,6 +85,7 @@ impl Params {
 
     /// How far the fast leak falls in each band.
     pub(crate) fn fast_decay(&self) -> u16
+        requires { IsParams self.now }
         ensures value { result ≡ fast_decay self.now }
         ensures most { result ≤ 2000 }
     {
@@ -92,6 +94,7 @@ impl Params {
 
     /// How far the slow leak falls in each band.
     pub(crate) fn slow_decay(&self) -> u16
+        requires { IsParams self.now }
         ensures value { result ≡ slow_decay self.now }
         ensures most { result ≤ 2000 }
     {
@@ -100,6 +103,7 @@ impl Params {
 
     /// The fast leak of the coupling channel before its first band.
     pub(crate) fn fast_start(&self) -> u16
+        requires { IsParams self.now }
         ensures value { result ≡ fast_start self.now }
         ensures most { result ≤ 4416 }
     {
@@ -108,6 +112,7 @@ impl Params {
 
     /// The slow leak of the coupling channel before its first band.
     pub(crate) fn slow_start(&self) -> u16
+        requires { IsParams self.now }
         ensures value { result ≡ slow_start self.now }
         ensures most { result ≤ 4416 }
     {
@@ -116,6 +121,7 @@ impl Params {
 
     /// The density below which the excitation grows.
     pub(crate) fn knee(&self) -> u16
+        requires { IsParams self.now }
         ensures value { result ≡ knee self.now }
         ensures most { result ≤ 2816 }
     {
@@ -124,7 +130,9 @@ impl Params {
 
     /// The floor under the masks.
     pub(crate) fn floor(&self) -> i32
-        ensures value { result ≡ slice_index_or floors self.now.floorcod (pos 0) }
+        requires { IsParams self.now }
+        ensures value { result ≡ floor_of self.now }
+        ensures bound { IsFloor result }
     {
         FLOORS[self.floorcod as usize]
     }

@@ -2,7 +2,7 @@
 ghost use Rattle.std.specs.Prelude.{◌≡◌, ◌<◌, ◌≤◌, ◌+◌, ◌*◌, ◌-◌, ◌^◌, ◌⊎◌, ℕ, ℤ, pos, ◌+ℤ◌, ◌-ℤ◌, ◌≤ℤ◌, unsigned_abs, slice_index, slice_index_or, if◌then◌else◌};
 ghost use Rattle.ac_alloc.specs.Pointers.{level, bap, bap_of};
 ghost use Rattle.ac_base.specs.Shape.{IsSpan};
-ghost use Rattle.ac_alloc.specs.Masking.{IsLevel, IsFloor};
+ghost use Rattle.ac_alloc.specs.Masking.{IsLevel, IsFloor, IsMask};
 ghost use Rattle.ac_alloc.specs.Integration.{AreExponents, psd};
 ghost use Rattle.ac_base.specs.Allocation.{masktab_list};
 
@@ -35,6 +35,7 @@ fn raised_level(mask: i32, floor: u16, t: u16) -> u16
 
 /// What stands of the masks of all bands at an offset, raised by 2048.
 fn raised_levels(mask: &Mask, t: u16, out: &mut [u16; 50])
+    requires mask { IsMask mask.now }
     requires t { t ≤ 1023 }
     ensures values { (b : ℕ) → b < 50 → pos (slice_index out.new b) ≡ level (slice_index_or mask.now.m b (pos 0)) mask.now.floor t +ℤ pos 2048 }
     ensures bounds { (b : ℕ) → b < 50 → slice_index out.new b ≤ 10992 }
@@ -61,6 +62,7 @@ fn bap_at(raised: u16, psd: u16) -> u8
 /// `silent` says that all SNR offset codes of the block are 0; then every bap is 0. What stands outside the span in
 /// `out` stays, and exponents outside it aren't read.
 pub fn baps(mask: &Mask, span: &Span, exps: &[u8; 256], t: u16, silent: bool, out: &mut [u8; 256])
+    requires mask { IsMask mask.now }
     requires span { IsSpan span.now }
     requires exps { AreExponents span.now.start span.now.end exps.now }
     requires t { t ≤ 1023 }

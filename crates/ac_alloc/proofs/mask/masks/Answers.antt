@@ -3,7 +3,7 @@ use Rattle.std.proofs.lemmas.Int.{to_z-of_z, fits_signed_from_abs}
 use Rattle.ac_alloc.specs.Masking.{masked, IsLevel}
 use Rattle.ac_alloc.specs.Codes.{knee}
 use Rattle.ac_base.specs.Allocation.{hth_list}
-use Rattle.ac_alloc.proofs.Lists.{written_more, written_all}
+use Rattle.ac_alloc.proofs.Lists.{written_more, written_all, kept_more}
 use Rattle.ac_alloc.proofs.mask.masks.Goals as goal
 
 pub loop-b-preserved : goal.loop-b-preserved
@@ -22,4 +22,5 @@ loop-b-preserved c =
       written_more (λ k z. z ≡ masked (slice_index_or c.args.excite.now k (pos 0)) (knee p) (slice_index bndpsd k) (slice_index (hth_list p.fscod) k)) (pos 0) c.loop-b.out c.args.from b y inside c.loop-b.invariant.0 v,
       written_all IsLevel (pos 0) c.loop-b.out b y inside c.loop-b.invariant.1 (c.band_mask.ensures.least, c.band_mask.ensures.bound),
       length-set c.loop-b.out b y ∙ c.loop-b.invariant.2,
+      kept_more (pos 0) c.loop-b.out c.args.out.now c.args.from b y (omega arith) c.loop-b.invariant.3,
     )

@@ -1,11 +1,12 @@
-use Rattle.std.proofs.Common.{◌≡◌, ◌+◌, ◌<◌, ◌≤◌, ℕ, pos, slice_index, arith, ap, ◌∙◌, sym, subst, rules}
+use Rattle.std.proofs.Common.{◌≡◌, inl, inr, ◌-◌, ◌+◌, ◌<◌, ◌≤◌, ℕ, pos, slice_index, arith, ap, ◌∙◌, sym, subst, rules}
 use Rattle.ac_alloc.specs.Excitation.{excite_by}
 use Rattle.ac_alloc.specs.Masking.{masked, IsLevel, first_band}
 use Rattle.ac_alloc.specs.Codes.{knee}
 use Rattle.ac_alloc.specs.Integration.{bndpsd}
 use Rattle.ac_base.specs.Allocation.{hth_list}
 use Rattle.ac_alloc.proofs.Lists.{of_equal}
-use Rattle.ac_alloc.proofs.Spans.{bands_are}
+use Rattle.ac_base.proofs.SpanBounds.{span_some, span_end}
+use Rattle.ac_alloc.proofs.Spans.{bands_are, bands_rise}
 use Rattle.ac_alloc.proofs.mask.Mask.of.Goals as goal
 
 pub excite_span-requires-clause-bands : goal.excite_span-requires-clause-bands
@@ -31,3 +32,18 @@ returns-clause-masks c =
     let h = slice_index (hth_list p.fscod) b in
     let e = c.excite_span.ensures.values b lo hi ∙ ap (λ (F : ℕ → ℕ). excite_by s.lead p from F b) same ∙ ap (λ f. excite_by s.lead p f Q b) c.band_of-from.ensures.value in
     c.masks.ensures.values b lo hi ∙ ap (λ x. masked x (knee p) (P b) h) e ∙ ap (λ (F : ℕ → ℕ). masked (excite_by s.lead p (first_band s) Q b) (knee p) (F b) h) same
+
+pub masks-requires-clause-order : goal.masks-requires-clause-order
+masks-requires-clause-order c =
+    let s = c.args.span.now in
+    let rise = bands_rise s.start (s.end - 1) (omega (arith, span_some s c.requires.span)) (omega (arith, span_some s c.requires.span, span_end s c.requires.span)) in
+    omega (arith, rise, c.band_of-from.ensures.value, c.band_of.ensures.value)
+
+pub returns-clause-rest : goal.returns-clause-rest
+returns-clause-rest c =
+    λ (b : ℕ) h.
+    let zero = of_equal (pos 0) 50 b in
+    elim h [
+      | inl below ↦ c.masks.ensures.rest b (inl (omega (arith, below, c.band_of-from.ensures.value))) ∙ zero
+      | inr above ↦ c.masks.ensures.rest b (inr (omega (arith, above, c.band_of.ensures.value))) ∙ zero
+    ]
