@@ -144,33 +144,49 @@ def checksum(numbers):
     return total
 
 
-SPANS = {
-    "Free": [("free", 0, 73), ("free", 0, 157), ("free", 0, 253)],
-    "Coupled": [("coupled", 0, 37), ("coupled", 0, 61), ("coupled", 0, 217)],
-    "Coupling": [("coupling", 37, 73), ("coupling", 61, 253), ("coupling", 217, 253)],
-    "Low": [("low", 0, 7)],
-}
-FIELDS = ["sdcycod", "fdcycod", "sgaincod", "dbpbcod", "floorcod", "fgaincod", "cplfleak", "cplsleak"]
+# chbwcod, cplbegf and cplendf where there is a coupling, and the coded channel, of two channels with LFE
+SPANS = [
+    ("free", 0, None, 0),
+    ("free", 28, None, 0),
+    ("free", 60, None, 0),
+    ("coupled", 60, (0, 0), 0),
+    ("coupled", 60, (2, 15), 0),
+    ("coupled", 60, (15, 13), 0),
+    ("coupling", 60, (0, 0), 2),
+    ("coupling", 60, (2, 15), 2),
+    ("coupling", 60, (15, 15), 2),
+    ("low", 60, None, 2),
+    ("low", 60, (0, 15), 3),
+]
+FIELDS = ["fscod", "sdcycod", "fdcycod", "sgaincod", "dbpbcod", "floorcod", "fgaincod", "cplfleak", "cplsleak"]
+LIMITS = [3, 4, 4, 4, 4, 8, 8, 8, 8]
 
 
-def rows():
-    """One row a span, parameters, exponents and offset."""
-    draw = iter(exponents(2026) + exponents(52))
-    for name, spans in SPANS.items():
-        for lead, start, end in spans:
-            for shape in range(4):
-                p = {f: next(draw) % (4 if i < 4 else 8) for i, f in enumerate(FIELDS)}
-                p["fscod"] = next(draw) % 3
-                yield name, lead, start, end, shape, p, [150 + next(draw) % 300, next(draw) % 1024][shape % 2]
+def ends(lead, chbwcod, couple):
+    if lead == "free":
+        return 0, 37 + 3 * (chbwcod + 12)
+    if lead == "coupled":
+        return 0, 37 + 12 * couple[0]
+    if lead == "coupling":
+        return 37 + 12 * couple[0], 37 + 12 * (couple[1] + 3)
+    return 0, 7
 
 
 def main():
-    for name, lead, start, end, shape, p, t in rows():
-        seed = start * 1000 + end * 4 + shape
-        exps = sloping(seed) if shape < 2 else spread(seed)
-        m = masks(p, lead, start, end, exps)
-        b = baps(p, lead, start, end, exps, t)
-        print(name, start, end, shape, p, t, checksum(m.values()), checksum(b), sorted(set(b)))
+    draw = iter(exponents(2026) + exponents(52))
+    for number, (lead, chbwcod, couple, channel) in enumerate(SPANS):
+        for slope in (True, False):
+            p = {field: next(draw) % limit for field, limit in zip(FIELDS, LIMITS)}
+            if lead == "coupling":
+                p["cplfleak"], p["cplsleak"] = number % 8, 7 - number % 8
+            t = 140 + next(draw) % 300
+            start, end = ends(lead, chbwcod, couple)
+            exps = (sloping if slope else spread)(number)
+            told = "None" if couple is None else "Some((%d, %d))" % couple
+            masked = checksum(masks(p, lead, start, end, exps).values())
+            pointed = checksum(baps(p, lead, start, end, exps, t))
+            print("        (%d, %s, %d, %s, %d, %s, %d, %d, %d)," % (
+                chbwcod, told, channel, list(p.values()), number, str(slope).lower(), t, masked, pointed))
 
 
 if __name__ == "__main__":

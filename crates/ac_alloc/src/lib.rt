@@ -10,6 +10,8 @@ mod lowcomp;
 mod mask;
 mod params;
 mod pointers;
+#[cfg(test)]
+mod tests;
 
 pub use laws::allocation_laws;
 pub use mask::Mask;
