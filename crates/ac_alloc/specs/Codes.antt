@@ -1,4 +1,4 @@
--- What the codes of the bit allocation parameters stand for (A/52 5.4.3.40 to 5.4.3.49, 7.2.2.1).
+-- What the codes of the bit allocation parameters stand for (A/52 5.4.3.31 to 5.4.3.46, 7.2.2.1).
 use Rattle.std.specs.Prelude.{ℕ, ◌+◌, ◌*◌, ◌≤◌, ℤ, pos, negsuc, List, [], ◌∷◌, slice_index, slice_index_or}
 use Rattle.ac_alloc.specs.declared.params.Params.{Params}
 

@@ -1,4 +1,4 @@
-//! The parameters of the bit allocation, and what their codes stand for (A/52 5.4.3.40 to 5.4.3.49, 7.2.2.1).
+//! The parameters of the bit allocation, and what their codes stand for (A/52 5.4.3.31 to 5.4.3.46, 7.2.2.1).
 ghost use Rattle.std.specs.Prelude.{◌≡◌, ◌≤◌, ◌+◌, ◌*◌, ◌-◌, ℕ, slice_index, slice_index_or, pos};
 
 /// The parameters of a coded channel's bit allocation in a block. Calls that take them ask that each is within the
