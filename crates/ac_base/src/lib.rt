@@ -1,8 +1,9 @@
 //! The numbers, tables and shapes that every layer of the coder stands on:
-//! fixed point, the cosines and the window of the transforms, the rates and sizes of frames,
+//! fixed point, the cosines and the window of the transforms, the tables of the bit allocation, the rates and sizes of frames,
 //! and the shape of a frame with the spans and side bits of its channels.
 #![tactic(auto)]
 
+mod allocation_tables;
 mod coefficients;
 mod cosine_table;
 mod memory;
@@ -14,6 +15,7 @@ mod sizes;
 mod spans;
 mod window_table;
 
+pub use allocation_tables::{band_of, band_start, baptab, hearing, latab};
 pub use coefficients::Coefs;
 pub use cosine_table::{cosine, cosines, quarter};
 pub use memory::NoMemory;

@@ -1,0 +1,5 @@
+pub mod Codes
+pub mod Excitation
+pub mod Integration
+pub mod Masking
+pub mod Pointers

@@ -1,0 +1,37 @@
+-- The masking curve of a coded channel (A/52 7.2.2.5).
+use Rattle.std.specs.Prelude.{ℕ, ◌/◌, ◌-◌, ◌≤◌, ℤ, pos, negsuc, ◌+ℤ◌, ◌≤ℤ◌, unsigned_abs, List, slice_index, slice_index_or, if◌then◌else◌, nat_lt}
+use Rattle.std.specs.Int.{int_max}
+use Rattle.ac_base.specs.declared.spans.Span.{Span}
+use Rattle.ac_base.specs.Allocation.{masktab_list, hth_list}
+use Rattle.ac_alloc.specs.declared.params.Params.{Params}
+use Rattle.ac_alloc.specs.declared.mask.Mask.{Mask}
+use Rattle.ac_alloc.specs.Codes.{knee}
+use Rattle.ac_alloc.specs.Integration.{bndpsd}
+use Rattle.ac_alloc.specs.Excitation.{excite_by}
+
+-- the first and the last band of a span
+abbrev pub first_band : Span → ℕ
+first_band s = slice_index masktab_list s.start
+
+abbrev pub last_band : Span → ℕ
+last_band s = slice_index masktab_list (s.end - 1)
+
+-- of one band: where its density is below the knee the excitation grows; the mask is at least the hearing threshold
+abbrev pub masked : ℤ → ℕ → ℕ → ℕ → ℤ
+masked excite knee bndpsd threshold =
+    int_max (if nat_lt bndpsd knee then excite +ℤ pos ((knee - bndpsd) / 4) else excite) (pos threshold)
+
+-- the mask of band b
+abbrev pub mask : Params → Span → List ℕ → ℕ → ℤ
+mask p s exps b =
+    masked (excite_by s.lead p (first_band s) (bndpsd s.start s.end exps) b) (knee p) (bndpsd s.start s.end exps b) (slice_index (hth_list p.fscod) b)
+
+-- how great masks and floors are
+abbrev pub IsLevel : ℤ → Type 0
+IsLevel m = (pos 0 ≤ℤ m) × (unsigned_abs m ≤ 5120)
+
+abbrev pub IsFloor : ℤ → Type 0
+IsFloor f = (negsuc 2047 ≤ℤ f) × (f ≤ℤ pos 752)
+
+abbrev pub IsMask : Mask → Type 0
+IsMask mask = ((b : ℕ) → IsLevel (slice_index_or mask.m b (pos 0))) × IsFloor mask.floor

@@ -1,0 +1,178 @@
+//! The excitation of the bands of a coded channel (A/52 7.2.2.4).
+ghost use Rattle.std.specs.Prelude.{◌≡◌, ◌<◌, ◌≤◌, ◌+◌, ◌*◌, ◌-◌, ◌^◌, ℕ, ℤ, pos, ◌-ℤ◌, ◌≤ℤ◌, unsigned_abs, slice_index, slice_index_or, if◌then◌else◌};
+ghost use Rattle.std.specs.Int.{int_max};
+ghost use Rattle.ac_alloc.specs.Excitation.{joined, excite, excite_coupling, excite_by, AreBands};
+ghost use Rattle.ac_alloc.specs.Codes.{IsParams};
+
+use crate::leaks::leaks;
+use crate::lowcomp::{find_begin, lowcomps};
+use crate::params::Params;
+use ac_base::Lead;
+
+/// A leak's start as a signed level.
+#[inline]
+fn signed(x: u16) -> i32
+    requires { x ≤ 4416 }
+    ensures value { result ≡ pos x }
+    ensures bound { unsigned_abs result ≤ 4416 }
+{
+    i32::from(x)
+}
+
+/// A density less a gain.
+#[inline]
+fn less_gain(bndpsd: u16, gain: u16) -> i32
+    requires bndpsd { bndpsd ≤ 4544 }
+    requires least { 128 ≤ gain }
+    requires most { gain ≤ 2000 }
+    ensures value { result ≡ pos bndpsd -ℤ pos gain }
+    ensures bound { unsigned_abs result ≤ 4416 }
+{
+    i32::from(bndpsd) - i32::from(gain)
+}
+
+/// The excitation of a band below the leaks.
+#[inline]
+fn below_leaks(bndpsd: u16, gain: u16, low: u16) -> i32
+    requires bndpsd { bndpsd ≤ 4544 }
+    requires least { 128 ≤ gain }
+    requires most { gain ≤ 2000 }
+    requires low { low ≤ 384 }
+    ensures value { result ≡ pos bndpsd -ℤ pos gain -ℤ pos low }
+    ensures bound { unsigned_abs result ≤ 4416 }
+{
+    i32::from(bndpsd) - i32::from(gain) - i32::from(low)
+}
+
+/// The excitation of a band up to 21 from its leaks and its compensation.
+#[inline]
+fn with_lowcomp(fast: i32, slow: i32, low: u16) -> i32
+    requires fast { unsigned_abs fast ≤ 4416 }
+    requires slow { unsigned_abs slow ≤ 4416 }
+    requires low { low ≤ 384 }
+    ensures value { result ≡ int_max (fast -ℤ pos low) slow }
+    ensures bound { unsigned_abs result ≤ 4416 }
+{
+    (fast - i32::from(low)).max(slow)
+}
+
+/// The excitation of a band from 22 on from its leaks.
+#[inline]
+fn greater_leak(fast: i32, slow: i32) -> i32
+    requires fast { unsigned_abs fast ≤ 4416 }
+    requires slow { unsigned_abs slow ≤ 4416 }
+    ensures value { result ≡ int_max fast slow }
+    ensures bound { unsigned_abs result ≤ 4416 }
+{
+    fast.max(slow)
+}
+
+/// The excitation of each band of a full channel or of LFE, up to but not `to`.
+fn excite_channel(p: &Params, bndpsd: &[u16; 50], lfe: bool, to: usize, out: &mut [i32; 50])
+    requires params { IsParams p.now }
+    requires few { to ≤ (if lfe then 7 else 50) }
+    requires some { (if lfe then 7 else 22) ≤ to }
+    requires bounds { (b : ℕ) → slice_index bndpsd.now b ≤ 4544 }
+    ensures values { (b : ℕ) → b < to → slice_index_or out.new b (pos 0) ≡ excite p.now lfe (λ j. slice_index bndpsd.now j) b }
+    ensures bounds { (b : ℕ) → b < to → unsigned_abs (slice_index_or out.new b (pos 0)) ≤ 4416 }
+{
+    let mut low = [0u16; 50];
+    lowcomps(bndpsd, lfe, &mut low);
+    let begin = find_begin(bndpsd, lfe);
+    let fast_gain = p.fast_gain();
+    let fast_first = less_gain(bndpsd[begin - 1], fast_gain);
+    let mut fast = [0i32; 50];
+    leaks(
+        fast_first,
+        bndpsd,
+        fast_gain,
+        p.fast_decay(),
+        begin,
+        to,
+        &mut fast,
+    );
+    let slow_gain = p.slow_gain();
+    let slow_first = less_gain(bndpsd[begin - 1], slow_gain);
+    let mut slow = [0i32; 50];
+    leaks(
+        slow_first,
+        bndpsd,
+        slow_gain,
+        p.slow_decay(),
+        begin,
+        to,
+        &mut slow,
+    );
+    for b in 0..to {
+        out[b] = if b < begin {
+            below_leaks(bndpsd[b], fast_gain, low[b])
+        } else if b <= 21 {
+            with_lowcomp(fast[b], slow[b], low[b])
+        } else {
+            greater_leak(fast[b], slow[b])
+        };
+    }
+}
+
+/// The excitation of each band of the coupling channel, from `from` up to but not `to`.
+fn excite_coupling_channel(
+    p: &Params,
+    bndpsd: &[u16; 50],
+    from: usize,
+    to: usize,
+    out: &mut [i32; 50],
+)
+    requires params { IsParams p.now }
+    requires few { to ≤ 50 }
+    requires order { from ≤ to }
+    requires bounds { (b : ℕ) → slice_index bndpsd.now b ≤ 4544 }
+    ensures values { (b : ℕ) → from ≤ b → b < to → slice_index_or out.new b (pos 0) ≡ excite_coupling p.now from (λ j. slice_index bndpsd.now j) b }
+    ensures bounds { (b : ℕ) → from ≤ b → b < to → unsigned_abs (slice_index_or out.new b (pos 0)) ≤ 4416 }
+{
+    let mut fast = [0i32; 50];
+    leaks(
+        signed(p.fast_start()),
+        bndpsd,
+        p.fast_gain(),
+        p.fast_decay(),
+        from,
+        to,
+        &mut fast,
+    );
+    let mut slow = [0i32; 50];
+    leaks(
+        signed(p.slow_start()),
+        bndpsd,
+        p.slow_gain(),
+        p.slow_decay(),
+        from,
+        to,
+        &mut slow,
+    );
+    for b in from..to {
+        out[b] = greater_leak(fast[b], slow[b]);
+    }
+}
+
+/// The excitation of each band of a coded channel, from `from` up to but not `to`.
+pub(crate) fn excite_span(
+    p: &Params,
+    lead: Lead,
+    bndpsd: &[u16; 50],
+    from: usize,
+    to: usize,
+    out: &mut [i32; 50],
+)
+    requires params { IsParams p.now }
+    requires bands { AreBands lead from to }
+    requires bounds { (b : ℕ) → slice_index bndpsd.now b ≤ 4544 }
+    ensures values { (b : ℕ) → from ≤ b → b < to → slice_index_or out.new b (pos 0) ≡ excite_by lead p.now from (λ j. slice_index bndpsd.now j) b }
+    ensures bounds { (b : ℕ) → from ≤ b → b < to → unsigned_abs (slice_index_or out.new b (pos 0)) ≤ 4416 }
+{
+    match lead {
+        Lead::Free => excite_channel(p, bndpsd, false, to, out),
+        Lead::Coupled => excite_channel(p, bndpsd, false, to, out),
+        Lead::Coupling => excite_coupling_channel(p, bndpsd, from, to, out),
+        Lead::Low => excite_channel(p, bndpsd, true, to, out),
+    }
+}

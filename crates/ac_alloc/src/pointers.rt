@@ -1,0 +1,104 @@
+//! The bit allocation pointers of the bins of a coded channel (A/52 7.2.2.7).
+ghost use Rattle.std.specs.Prelude.{◌≡◌, ◌<◌, ◌≤◌, ◌+◌, ◌*◌, ◌-◌, ◌^◌, ◌⊎◌, ℕ, ℤ, pos, ◌+ℤ◌, ◌-ℤ◌, ◌≤ℤ◌, unsigned_abs, slice_index, slice_index_or, if◌then◌else◌};
+ghost use Rattle.ac_alloc.specs.Pointers.{level, bap, bap_of};
+ghost use Rattle.ac_base.specs.Shape.{IsSpan};
+ghost use Rattle.ac_alloc.specs.Masking.{IsLevel, IsFloor, IsMask};
+ghost use Rattle.ac_alloc.specs.Integration.{AreExponents, psd};
+ghost use Rattle.ac_base.specs.Allocation.{masktab_list};
+
+use crate::integration::psd;
+use crate::mask::Mask;
+use ac_base::{Span, band_of, baptab};
+
+/// A floor raised by 2048.
+#[inline]
+fn raised_floor(floor: i32) -> u16
+    requires { IsFloor floor }
+    ensures value { pos result ≡ floor +ℤ pos 2048 }
+    ensures bound { result ≤ 2800 }
+{
+    (floor + 2048) as u16
+}
+
+/// What stands of a mask at an offset, raised by 2048; the floor is raised too.
+#[inline]
+fn raised_level(mask: i32, floor: u16, t: u16) -> u16
+    requires mask { IsLevel mask }
+    requires floor { floor ≤ 2800 }
+    requires t { t ≤ 1023 }
+    ensures value { pos result ≡ level mask (pos floor -ℤ pos 2048) t +ℤ pos 2048 }
+    ensures bound { result ≤ 10992 }
+{
+    let above = (mask as u16 + 960 + 2048).saturating_sub(4 * t + floor);
+    (above & 0x1fe0) + floor
+}
+
+/// What stands of the masks of all bands at an offset, raised by 2048.
+fn raised_levels(mask: &Mask, t: u16, out: &mut [u16; 50])
+    requires mask { IsMask mask.now }
+    requires t { t ≤ 1023 }
+    ensures values { (b : ℕ) → b < 50 → pos (slice_index out.new b) ≡ level (slice_index_or mask.now.m b (pos 0)) mask.now.floor t +ℤ pos 2048 }
+    ensures bounds { (b : ℕ) → b < 50 → slice_index out.new b ≤ 10992 }
+{
+    let floor = raised_floor(mask.floor);
+    for b in 0..50usize {
+        out[b] = raised_level(mask.m[b], floor, t);
+    }
+}
+
+/// The pointer of a bin.
+#[inline]
+fn bap_at(raised: u16, psd: u16) -> u8
+    requires psd { psd ≤ 3072 }
+    ensures value { (level : ℤ) → pos raised ≡ level +ℤ pos 2048 → result ≡ bap_of level psd }
+{
+    let left = (psd + 2048).saturating_sub(raised);
+    let address = (left / 32).min(63);
+    baptab(address as u8)
+}
+
+/// Writes the bit allocation pointer (bap) of each bin of a span to `out`, at the offset t = 16 csnroffst + fsnroffst.
+///
+/// `silent` says that all SNR offset codes of the block are 0; then every bap is 0. What stands outside the span in
+/// `out` stays, and exponents outside it aren't read.
+pub fn baps(mask: &Mask, span: &Span, exps: &[u8; 256], t: u16, silent: bool, out: &mut [u8; 256])
+    requires mask { IsMask mask.now }
+    requires span { IsSpan span.now }
+    requires exps { AreExponents span.now.start span.now.end exps.now }
+    requires t { t ≤ 1023 }
+    ensures bins { (k : ℕ) → span.now.start ≤ k → k < span.now.end → slice_index out.new k ≡ (if silent then 0 else bap (slice_index_or mask.now.m (slice_index masktab_list k) (pos 0)) mask.now.floor (psd exps.now k) t) }
+    ensures rest { (k : ℕ) → (k < span.now.start) ⊎ (span.now.end ≤ k) → slice_index out.new k ≡ slice_index out.old k }
+{
+    if silent {
+        silence_bins(span.start as usize, span.end as usize, out);
+    } else {
+        let mut levels = [0u16; 50];
+        raised_levels(mask, t, &mut levels);
+        allocate_bins(&levels, span.start, span.end, exps, out);
+    }
+}
+
+/// Pointers of 0 from `start` up to but not `end`.
+fn silence_bins(start: usize, end: usize, out: &mut [u8; 256])
+    requires end { end ≤ 253 }
+    requires order { start ≤ end }
+    ensures bins { (k : ℕ) → start ≤ k → k < end → slice_index out.new k ≡ 0 }
+    ensures rest { (k : ℕ) → (k < start) ⊎ (end ≤ k) → slice_index out.new k ≡ slice_index out.old k }
+{
+    for k in start..end {
+        out[k] = 0;
+    }
+}
+
+/// The pointers from `start` up to but not `end`.
+fn allocate_bins(levels: &[u16; 50], start: u8, end: u8, exps: &[u8; 256], out: &mut [u8; 256])
+    requires end { end ≤ 253 }
+    requires order { start ≤ end }
+    requires exps { AreExponents start end exps.now }
+    ensures bins { (k : ℕ) → start ≤ k → k < end → (level : ℤ) → pos (slice_index levels.now (slice_index masktab_list k)) ≡ level +ℤ pos 2048 → slice_index out.new k ≡ bap_of level (psd exps.now k) }
+    ensures rest { (k : ℕ) → (k < start) ⊎ (end ≤ k) → slice_index out.new k ≡ slice_index out.old k }
+{
+    for k in start..end {
+        out[k as usize] = bap_at(levels[band_of(k) as usize], psd(exps[k as usize]));
+    }
+}
