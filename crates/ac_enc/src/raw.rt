@@ -70,3 +70,6 @@ pub fn raw_blocks(last: &[i32; 256], pcm: &[i32; 1536], raw: &mut [[u8; 256]; 6]
         raw_block(last, pcm, b, &mut raw[b]);
     }
 }
+
+#[cfg(test)]
+mod tests;
