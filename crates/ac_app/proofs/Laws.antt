@@ -1,6 +1,6 @@
 -- Streams and refusals by their definitions alone.
 use Rattle.std.proofs.Common.{◌≡◌, ◌⊎◌, ℕ, zero, suc, ◌+◌, ◌-◌, ◌*◌, ◌^◌, ◌<◌, ◌≤◌, Bool, true, false, List, ◌++◌, length, take, drop, refl, ap, ap₂, sym, subst, ◌∙◌, arith, inl, inr, length-append}
-use Rattle.std.specs.Prelude.{codes}
+use Rattle.std.specs.Prelude.{codes, ℤ, pos, nat_lt, if◌then◌else◌}
 use Rattle.std.specs.Bool.{Decides}
 use Rattle.std.specs.Str.{bytes_eq}
 use Rattle.std.proofs.Math.Nat.{suc-mul}
@@ -13,11 +13,13 @@ use Rattle.ac_base.specs.Rates.{IsRate}
 use Rattle.ac_frame.specs.Plain.{AreBytes}
 use Rattle.ac_enc.specs.Frame.{IsFrame}
 use Rattle.ac_enc.proofs.Frames as frames
+use Rattle.ac_enc.proofs.Places.{frame_same}
 use Rattle.ac_app.specs.declared.status.WavKind.{WavKind}
 use Rattle.ac_app.specs.declared.status.WavKind.TheVariants.{Short, NotYet}
 use Rattle.ac_app.specs.declared.status.Status.TheVariants as statuses
 use Rattle.ac_app.specs.Head.{HasName, number_at, data_size, HasNames, HasNumbers, IsPlainHead, IsPlainWav, Refuses}
 use Rattle.ac_app.specs.Stream.{places, IsStream}
+use Rattle.ac_app.specs.Sound.{sample_of, sound_at}
 use Rattle.ac_app.proofs.Ends.{one_refusal}
 
 -- ---- streams
@@ -38,7 +40,7 @@ bytes_left a b s e bs k below =
     let at = get_or_append_left a b 0 k below in
     omega (arith, h, at)
 
-bytes_right : (a b s : List ℕ) → s ≡ a ++ b → AreBytes s → AreBytes b
+pub bytes_right : (a b s : List ℕ) → s ≡ a ++ b → AreBytes s → AreBytes b
 bytes_right a b s e bs k below =
     let all = subst (λ (l : List ℕ). AreBytes l) e bs in
     let h = all (length a + k) (omega (arith, length-append a b)) in
@@ -83,6 +85,17 @@ frame_at rate k i bytes s is p below =
     let q = front rate (suc i) (k - suc i) bytes s is (subst (λ (m : ℕ). IsStream rate bytes m s) same p) in
     let e = ap (λ m. drop (i * n) (take m s)) (suc-mul i n) ∙ drop-take (i * n) n s in
     subst (λ (l : List ℕ). IsFrame rate (places bytes i) l) e (last_frame rate i bytes (take (suc i * n) s) is q)
+
+-- the samples alone tell the stream
+same_sound : (a b : List ℕ) → ((j : ℕ) → sample_of a j ≡ sample_of b j) → (p : ℕ) → sound_at a p ≡ sound_at b p
+unfolding sound_at
+same_sound a b same p = ap (λ (z : ℤ). if nat_lt p 256 then pos 0 else z) (same (p - 256))
+
+pub told : (rate k : ℕ) (a b s : List ℕ) → ((j : ℕ) → sample_of a j ≡ sample_of b j) → IsStream rate a k s → IsStream rate b k s
+unfolding IsStream
+told rate zero a b s same p = p
+told rate (suc k) a b s same p =
+    (p.0, p.1, told rate k a b p.0 same p.2, frame_same rate (places a k) (places b k) p.1 (λ q below. same_sound a b same (1536 * k + q)) p.3, p.4)
 
 -- ---- plain heads are known
 

@@ -6,3 +6,4 @@ pub mod Streams
 pub mod Jobs
 pub mod Ends
 pub mod Laws
+pub mod Done

@@ -15,7 +15,7 @@ pub use ac_io::{
     Failed, MemSink, MemSource, NullSink, Sink, Source, StdSink, StdSource, SureSource,
 };
 pub use ac_words::{Command, Couple, Names, Options, WordsFault, command, names};
-pub use law::{stream_law, wav_law};
+pub use law::{run_law, stream_law, wav_law};
 pub use status::{Status, WavKind};
 pub use top::run;
 

@@ -1,5 +1,5 @@
 //! The worked examples of the top call, over a source and sinks in memory.
-use crate::{MemSink, MemSource, Status, WavKind, run, stream_law, wav_law};
+use crate::{MemSink, MemSource, Status, WavKind, run, run_law, stream_law, wav_law};
 use std::alloc::{AllocError, Global};
 use std::test::Fail;
 
@@ -114,6 +114,7 @@ fn frame_count(rt: HostRuntime) -> Result<(), Fail> {
 // Two frames of a sound: bytes 4 to 7 of each are the head's.
 #[test]
 fn mono_header_bytes(rt: HostRuntime) -> Result<(), Fail> {
+    run_law();
     let mut bytes = Vec::from_slice(rt.alloc(), &head_of(4000))?;
     for place in 0..4000u32 {
         bytes.push((place * place % 251) as u8)?;
