@@ -1,3 +1,6 @@
+ghost use Rattle.std.specs.Prelude.{◌≡◌, ◌≤◌, ◌%◌};
+ghost use Rattle.ac_wav.specs.Form.{IsOfProfile};
+
 use super::*;
 use ac_io::{MemSource, StdSource};
 use std::test::Fail;
