@@ -5,3 +5,4 @@ pub mod Fields
 pub mod Fine
 pub mod Rooms
 pub mod Rows
+pub mod Writes

@@ -71,3 +71,31 @@ lfe_orders =
 
 abbrev pub order_of : ℕ → Bool → List ℕ
 order_of acmod lfe = slice_index_or (if lfe then lfe_orders else plain_orders) acmod []
+
+-- the coded channel at each WAV place: the other way round
+abbrev pub plain_coded : List (List ℕ)
+plain_coded =
+    (0 ∷ 0 ∷ 0 ∷ 0 ∷ 0 ∷ 0 ∷ [])
+    ∷ (0 ∷ 0 ∷ 0 ∷ 0 ∷ 0 ∷ 0 ∷ [])
+    ∷ (0 ∷ 1 ∷ 0 ∷ 0 ∷ 0 ∷ 0 ∷ [])
+    ∷ (0 ∷ 2 ∷ 1 ∷ 0 ∷ 0 ∷ 0 ∷ [])
+    ∷ (0 ∷ 1 ∷ 2 ∷ 0 ∷ 0 ∷ 0 ∷ [])
+    ∷ (0 ∷ 2 ∷ 1 ∷ 3 ∷ 0 ∷ 0 ∷ [])
+    ∷ (0 ∷ 1 ∷ 2 ∷ 3 ∷ 0 ∷ 0 ∷ [])
+    ∷ (0 ∷ 2 ∷ 1 ∷ 3 ∷ 4 ∷ 0 ∷ [])
+    ∷ []
+
+abbrev pub lfe_coded : List (List ℕ)
+lfe_coded =
+    (0 ∷ 0 ∷ 0 ∷ 0 ∷ 0 ∷ 0 ∷ [])
+    ∷ (0 ∷ 1 ∷ 0 ∷ 0 ∷ 0 ∷ 0 ∷ [])
+    ∷ (0 ∷ 1 ∷ 2 ∷ 0 ∷ 0 ∷ 0 ∷ [])
+    ∷ (0 ∷ 2 ∷ 1 ∷ 3 ∷ 0 ∷ 0 ∷ [])
+    ∷ (0 ∷ 1 ∷ 3 ∷ 2 ∷ 0 ∷ 0 ∷ [])
+    ∷ (0 ∷ 2 ∷ 1 ∷ 4 ∷ 3 ∷ 0 ∷ [])
+    ∷ (0 ∷ 1 ∷ 4 ∷ 2 ∷ 3 ∷ 0 ∷ [])
+    ∷ (0 ∷ 2 ∷ 1 ∷ 5 ∷ 3 ∷ 4 ∷ [])
+    ∷ []
+
+abbrev pub coded_of : ℕ → Bool → List ℕ
+coded_of acmod lfe = slice_index_or (if lfe then lfe_coded else plain_coded) acmod []

@@ -4,3 +4,4 @@ pub mod Form
 pub mod Refusal
 pub mod Pieces
 pub mod Samples
+pub mod Written

@@ -1,6 +1,6 @@
 //! Channel masks, and the place in a WAV of each coded channel.
-ghost use Rattle.std.specs.Prelude.{◌≡◌, ◌≤◌, ◌<◌};
-ghost use Rattle.ac_wav.specs.Layout.{has_lfe, full_mask, mode_of, acmod_of, full_count, channel_count, first_mask, default_mask, order_of};
+ghost use Rattle.std.specs.Prelude.{◌≡◌, ◌≤◌, ◌<◌, ℕ, slice_index};
+ghost use Rattle.ac_wav.specs.Layout.{has_lfe, full_mask, mode_of, acmod_of, full_count, channel_count, first_mask, default_mask, order_of, coded_of};
 
 /// The bit of a mask that names the LFE channel.
 const LFE: u32 = 8;
@@ -36,6 +36,30 @@ const LFE_ORDERS: [[u8; 6]; 8] = [
     [0, 2, 1, 4, 3, 0],
     [0, 1, 3, 4, 2, 0],
     [0, 2, 1, 4, 5, 3],
+];
+
+/// The coded channel at each WAV place, by acmod.
+const PLAIN_CODED: [[u8; 6]; 8] = [
+    [0, 0, 0, 0, 0, 0],
+    [0, 0, 0, 0, 0, 0],
+    [0, 1, 0, 0, 0, 0],
+    [0, 2, 1, 0, 0, 0],
+    [0, 1, 2, 0, 0, 0],
+    [0, 2, 1, 3, 0, 0],
+    [0, 1, 2, 3, 0, 0],
+    [0, 2, 1, 3, 4, 0],
+];
+
+/// The same with LFE, which stands behind the last of L, R, C.
+const LFE_CODED: [[u8; 6]; 8] = [
+    [0, 0, 0, 0, 0, 0],
+    [0, 1, 0, 0, 0, 0],
+    [0, 1, 2, 0, 0, 0],
+    [0, 2, 1, 3, 0, 0],
+    [0, 1, 3, 2, 0, 0],
+    [0, 2, 1, 4, 3, 0],
+    [0, 1, 4, 2, 3, 0],
+    [0, 2, 1, 5, 3, 4],
 ];
 
 /// Whether the mask names the LFE channel.
@@ -110,5 +134,18 @@ pub fn order(acmod: u8, lfe: bool) -> [u8; 6]
         LFE_ORDERS[acmod as usize]
     } else {
         PLAIN_ORDERS[acmod as usize]
+    }
+}
+
+/// The coded channel at each WAV place.
+pub fn coded(acmod: u8, lfe: bool) -> [u8; 6]
+    requires { acmod ≤ 7 }
+    ensures value { result ≡ coded_of acmod lfe }
+    ensures below { (p : ℕ) → p < 6 → slice_index result p < 6 }
+{
+    if lfe {
+        LFE_CODED[acmod as usize]
+    } else {
+        PLAIN_CODED[acmod as usize]
     }
 }

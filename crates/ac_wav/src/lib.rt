@@ -12,7 +12,9 @@ mod head;
 mod layout;
 mod pieces;
 mod samples;
+mod written;
 
 pub use body::WavBody;
 pub use fault::{Field, WavFault, WavKind};
 pub use head::WavHead;
+pub use written::{Pcm, wav_head, wav_samples};

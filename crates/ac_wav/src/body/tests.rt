@@ -1,3 +1,6 @@
+ghost use Rattle.std.specs.Prelude.{◌≡◌, ◌≤◌, ◌%◌};
+ghost use Rattle.ac_wav.specs.Form.{IsOfProfile};
+
 use super::*;
 use ac_io::{MemSource, StdSource};
 use std::test::Fail;
@@ -102,6 +105,7 @@ fn samples_past_limit(rt: HostRuntime) {
 fn samples_within_limit(rt: HostRuntime) {
     let bytes = [1, 0, 2, 0, 3, 0];
     for (size, limit) in [(None, 50), (Some(6), 50), (Some(4), 48)] {
+        assert!(rt; limit >= 44);
         let mut source = StdSource::new(bytes.as_slice());
         let mut body = WavBody::new(&head(1, false, 16, size), limit);
         let mut out = [[0; 1536]; 6];
