@@ -1,6 +1,6 @@
 -- Bits never fall as the offset rises.
 use Rattle.std.proofs.Common.{◌≡◌, ℕ, zero, suc, ◌+◌, ◌*◌, ◌-◌, ◌/◌, ◌<◌, ◌≤◌, min, ℤ, pos, negsuc, ◌+ℤ◌, ◌-ℤ◌, ◌≤ℤ◌, Bool, true, false, List, slice_index, slice_index_or, bit_and, refl, arith, rules, inl, inr}
-use Rattle.std.specs.Prelude.{nat_le, nat_lt, if◌then◌else◌, ◌&&◌}
+use Rattle.std.specs.Prelude.{unsigned_abs, nat_le, nat_lt, if◌then◌else◌, ◌&&◌}
 use Rattle.std.proofs.lemmas.Int.{ints, clamps}
 use Rattle.std.proofs.lemmas.Nat.Bits.{and_high_mask}
 use Rattle.std.proofs.lemmas.Bool.{leb-true, cases_lt}
@@ -22,6 +22,10 @@ use Rattle.ac_base.proofs.SpanBounds.{span_end}
 natural_is : (x : ℤ) (n d : ℕ) → x +ℤ pos d ≡ pos n → natural x ≡ n - d
 natural_is (pos k) n d e = omega (arith, ints)
 natural_is (negsuc k) n d e = omega (arith, ints)
+
+pub natural_max : (x : ℤ) → natural x ≡ unsigned_abs (int_max x (pos 0))
+natural_max (pos n) = omega (arith, ints, clamps)
+natural_max (negsuc n) = omega (arith, ints, clamps)
 
 natural_rises : (x y : ℤ) → x ≤ℤ y → natural x ≤ natural y
 natural_rises (pos a) (pos b) l = omega (arith, ints)

@@ -1,5 +1,6 @@
 -- The bit allocation pointers of bins by the masks of their bands (A/52 7.2.2.7), and that they rise with the offset.
 use Rattle.std.specs.Prelude.{ℕ, ◌*◌, ◌/◌, ◌<◌, ◌≤◌, min, ℤ, pos, negsuc, List, ◌+ℤ◌, ◌-ℤ◌, slice_index, bit_and}
+use Rattle.std.specs.Int.{int_max, int_min}
 use Rattle.ac_base.specs.declared.spans.Span.{Span}
 use Rattle.ac_base.specs.Shape.{IsSpan}
 use Rattle.ac_base.specs.Allocation.{baptab_list, masktab_list}
@@ -20,6 +21,10 @@ snr_offset t = pos (4 * t) -ℤ pos 960
 -- what stands of a mask above the offset and the floor, in steps of 32, on the floor
 abbrev pub level : ℤ → ℤ → ℕ → ℤ
 level mask floor t = pos (bit_and (natural (mask -ℤ snr_offset t -ℤ floor)) 0x1fe0) +ℤ floor
+
+-- the nearest level from -2048 to 3072: densities don't tell lower ones apart, nor higher ones
+abbrev pub kept : ℤ → ℤ
+kept level = int_max (negsuc 2047) (int_min level (pos 3072))
 
 -- by the distance of the bin's density from it, an address of 0 to 63
 abbrev pub bap_of : ℤ → ℕ → ℕ

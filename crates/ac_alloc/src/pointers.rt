@@ -1,8 +1,7 @@
 //! The bit allocation pointers of the bins of a coded channel (A/52 7.2.2.7).
-ghost use Rattle.std.specs.Prelude.{◌≡◌, ◌<◌, ◌≤◌, ◌+◌, ◌*◌, ◌-◌, ◌^◌, ◌⊎◌, ℕ, ℤ, pos, ◌+ℤ◌, ◌-ℤ◌, ◌≤ℤ◌, unsigned_abs, slice_index, slice_index_or, if◌then◌else◌};
-ghost use Rattle.ac_alloc.specs.Pointers.{level, bap, bap_of};
+ghost use Rattle.std.specs.Prelude.{◌≡◌, ◌<◌, ◌≤◌, ◌+◌, ◌*◌, ◌-◌, ◌^◌, ◌⊎◌, ℕ, ℤ, pos, ◌+ℤ◌, ◌-ℤ◌, ◌≤ℤ◌, unsigned_abs, slice_index, slice_index_or, bit_and, if◌then◌else◌};
+ghost use Rattle.ac_alloc.specs.Pointers.{natural, snr_offset, level, kept, bap, bap_of};
 ghost use Rattle.ac_base.specs.Shape.{IsSpan};
-ghost use Rattle.ac_alloc.specs.Masking.{IsLevel, IsFloor, IsMask};
 ghost use Rattle.ac_alloc.specs.Integration.{AreExponents, psd};
 ghost use Rattle.ac_base.specs.Allocation.{masktab_list};
 
@@ -10,37 +9,56 @@ use crate::integration::psd;
 use crate::mask::Mask;
 use ac_base::{Span, band_of, baptab};
 
-/// A floor raised by 2048.
+/// How far a mask stands above an offset and a floor.
 #[inline]
-fn raised_floor(floor: i32) -> u16
-    requires { IsFloor floor }
-    ensures value { pos result ≡ floor +ℤ pos 2048 }
-    ensures bound { result ≤ 2800 }
+fn gap(mask: i32, floor: i32, t: u16) -> i64
+    requires { t ≤ 1023 }
+    ensures { result ≡ mask -ℤ snr_offset t -ℤ floor }
 {
-    (floor + 2048) as u16
+    i64::from(mask) - (i64::from(4 * t) - 960) - i64::from(floor)
 }
 
-/// What stands of a mask at an offset, raised by 2048; the floor is raised too.
+/// A number, and 0 for one below 0.
 #[inline]
-fn raised_level(mask: i32, floor: u16, t: u16) -> u16
-    requires mask { IsLevel mask }
-    requires floor { floor ≤ 2800 }
-    requires t { t ≤ 1023 }
-    ensures value { pos result ≡ level mask (pos floor -ℤ pos 2048) t +ℤ pos 2048 }
-    ensures bound { result ≤ 10992 }
+#[tactic(auto, using(crate::proofs::Rising::natural_max))]
+fn natural_of(x: i64) -> u64
+    ensures { result ≡ natural x }
 {
-    let above = (mask as u16 + 960 + 2048).saturating_sub(4 * t + floor);
-    (above & 0x1fe0) + floor
+    x.max(0) as u64
 }
 
-/// What stands of the masks of all bands at an offset, raised by 2048.
+/// The same in steps of 32.
+#[inline]
+fn stepped(above: u64) -> u16
+    ensures value { result ≡ bit_and above 0x1fe0 }
+    ensures bound { result ≤ 0x1fe0 }
+{
+    (above & 0x1fe0) as u16
+}
+
+/// A level above a floor, within the levels that tell bins apart, raised by 2048.
+#[inline]
+fn raised(steps: u16, floor: i32) -> u16
+    ensures { pos result ≡ kept (pos steps +ℤ floor) +ℤ pos 2048 }
+{
+    ((i64::from(steps) + i64::from(floor)).clamp(-2048, 3072) + 2048) as u16
+}
+
+/// What stands of a mask at an offset, likewise.
+#[inline]
+fn raised_level(mask: i32, floor: i32, t: u16) -> u16
+    requires { t ≤ 1023 }
+    ensures value { pos result ≡ kept (level mask floor t) +ℤ pos 2048 }
+{
+    raised(stepped(natural_of(gap(mask, floor, t))), floor)
+}
+
+/// What stands of the masks of all bands at an offset, likewise.
 fn raised_levels(mask: &Mask, t: u16, out: &mut [u16; 50])
-    requires mask { IsMask mask.now }
-    requires t { t ≤ 1023 }
-    ensures values { (b : ℕ) → b < 50 → pos (slice_index out.new b) ≡ level (slice_index_or mask.now.m b (pos 0)) mask.now.floor t +ℤ pos 2048 }
-    ensures bounds { (b : ℕ) → b < 50 → slice_index out.new b ≤ 10992 }
+    requires { t ≤ 1023 }
+    ensures values { (b : ℕ) → b < 50 → pos (slice_index out.new b) ≡ kept (level (slice_index_or mask.now.m b (pos 0)) mask.now.floor t) +ℤ pos 2048 }
 {
-    let floor = raised_floor(mask.floor);
+    let floor = mask.floor;
     for b in 0..50usize {
         out[b] = raised_level(mask.m[b], floor, t);
     }
@@ -50,7 +68,7 @@ fn raised_levels(mask: &Mask, t: u16, out: &mut [u16; 50])
 #[inline]
 fn bap_at(raised: u16, psd: u16) -> u8
     requires psd { psd ≤ 3072 }
-    ensures value { (level : ℤ) → pos raised ≡ level +ℤ pos 2048 → result ≡ bap_of level psd }
+    ensures value { (level : ℤ) → pos raised ≡ kept level +ℤ pos 2048 → result ≡ bap_of level psd }
 {
     let left = (psd + 2048).saturating_sub(raised);
     let address = (left / 32).min(63);
@@ -62,7 +80,6 @@ fn bap_at(raised: u16, psd: u16) -> u8
 /// `silent` says that all SNR offset codes of the block are 0; then every bap is 0. What stands outside the span in
 /// `out` stays, and exponents outside it aren't read.
 pub fn baps(mask: &Mask, span: &Span, exps: &[u8; 256], t: u16, silent: bool, out: &mut [u8; 256])
-    requires mask { IsMask mask.now }
     requires span { IsSpan span.now }
     requires exps { AreExponents span.now.start span.now.end exps.now }
     requires t { t ≤ 1023 }
@@ -95,7 +112,7 @@ fn allocate_bins(levels: &[u16; 50], start: u8, end: u8, exps: &[u8; 256], out: 
     requires end { end ≤ 253 }
     requires order { start ≤ end }
     requires exps { AreExponents start end exps.now }
-    ensures bins { (k : ℕ) → start ≤ k → k < end → (level : ℤ) → pos (slice_index levels.now (slice_index masktab_list k)) ≡ level +ℤ pos 2048 → slice_index out.new k ≡ bap_of level (psd exps.now k) }
+    ensures bins { (k : ℕ) → start ≤ k → k < end → (level : ℤ) → pos (slice_index levels.now (slice_index masktab_list k)) ≡ kept level +ℤ pos 2048 → slice_index out.new k ≡ bap_of level (psd exps.now k) }
     ensures rest { (k : ℕ) → (k < start) ⊎ (end ≤ k) → slice_index out.new k ≡ slice_index out.old k }
 {
     for k in start..end {
