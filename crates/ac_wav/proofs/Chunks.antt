@@ -1,6 +1,6 @@
 -- Chunks, the list cut behind them, and one chunk more.
-use Rattle.std.proofs.Common.{◌≡◌, ◌≢◌, ℕ, ◌+◌, ◌-◌, ◌≤◌, ◌<◌, List, [], ◌∷◌, ◌++◌, length, take, drop, Option, Some, None, refl, sym, subst, ap, ◌∙◌, arith, length-drop, length-append, append_assoc}
-use Rattle.std.specs.Prelude.{codes, All, ◌⊎◌}
+use Rattle.std.proofs.Common.{◌≡◌, ◌≢◌, ℕ, ◌+◌, ◌-◌, ◌≤◌, List, [], ◌∷◌, ◌++◌, length, take, drop, None, sym, ap, ◌∙◌, arith, length-drop, length-append, append_assoc}
+use Rattle.std.specs.Prelude.{codes}
 use Rattle.std.proofs.Common.{inl, inr}
 use Rattle.std.specs.List.{concat}
 use Rattle.std.proofs.lemmas.List.{take-take, drop-take, length-take-le, append-nil, take_all}
@@ -10,7 +10,7 @@ use Rattle.std.proofs.Math.Seq.{take-add}
 use Rattle.byteorder.specs.Endian.{little_number}
 use Rattle.byteorder.specs.Numbers.{little_from-take}
 use Rattle.ac_wav.specs.Format.{format_of, fault_of}
-use Rattle.ac_wav.specs.Form.{name_of, size_of, padded, whole_length, body_of, IsChunk, IsPassedBefore, IsPassedBehind, IsRiff, IsOpen, IsFormatted, IsDataAt}
+use Rattle.ac_wav.specs.Form.{name_of, size_of, whole_length, body_of, IsChunk, IsPassedBefore, IsPassedBehind, IsRiff, IsOpen, IsFormatted}
 use Rattle.ac_wav.specs.Refusal.{Reaches}
 use Rattle.ac_wav.specs.Pieces.{chunk_at}
 

@@ -1,11 +1,10 @@
 -- The fields of a `fmt ` chunk, read from its first 40 bytes.
-use Rattle.std.proofs.Common.{◌≡◌, ℕ, zero, suc, ◌+◌, ◌-◌, ◌*◌, ◌≤◌, ◌<◌, min, List, ◌++◌, length, take, drop, replicate, Option, Some, refl, sym, subst, ap, ◌∙◌, arith, inl, inr, slice_index, length-drop, length-take}
-use Rattle.std.specs.Prelude.{◌⊎◌}
+use Rattle.std.proofs.Common.{◌≡◌, ℕ, zero, suc, ◌+◌, ◌-◌, ◌*◌, ◌≤◌, ◌<◌, min, List, ◌++◌, length, take, drop, replicate, Option, refl, sym, subst, ap, ◌∙◌, arith, inl, inr, slice_index, length-drop}
 use Rattle.std.proofs.lemmas.Bool.{cases_lt}
-use Rattle.std.proofs.lemmas.List.{get_or-take, get_or-drop, get_or-append-add, get_or_append_left, get_or-replicate, get_or_past, length-take-le, take_all}
+use Rattle.std.proofs.lemmas.List.{get_or-take, get_or-drop, get_or-append-add, get_or_append_left, get_or-replicate, get_or_past, length-take-le}
 use Rattle.byteorder.specs.Endian.{little_from}
 use Rattle.ac_wav.specs.declared.format.Format.{Format}
-use Rattle.ac_wav.specs.Format.{fields_of, format_of, number_at}
+use Rattle.ac_wav.specs.Format.{fields_of}
 use Rattle.ac_wav.specs.Form.{size_of, whole_length, padded, body_of}
 use Rattle.ac_wav.specs.Pieces.{IsAt, ReadsOn, FormatRead, chunk_at}
 use Rattle.ac_wav.proofs.Chunks.{size_take, chunk_long}

@@ -6,3 +6,4 @@ pub mod Fine
 pub mod Rooms
 pub mod Rows
 pub mod Writes
+pub mod Unique

@@ -1,6 +1,6 @@
 -- Pieces at the limit.
 use Rattle.ac_io.specs.Outside.{ReadsFront}
-use Rattle.std.proofs.Common.{subst, ◌≡◌, ℕ, ◌+◌, ◌-◌, ◌≤◌, ◌<◌, List, ◌++◌, length, take, drop, Option, Some, Result, Ok, Err, ap, ◌∙◌, arith, length-drop}
+use Rattle.std.proofs.Common.{subst, ◌≡◌, ℕ, ◌+◌, ◌-◌, ◌≤◌, ◌<◌, List, ◌++◌, length, drop, Option, Some, Result, Ok, Err, ap, ◌∙◌, arith, length-drop}
 use Rattle.std.specs.Prelude.{MatchResult, IfSome}
 use Rattle.std.proofs.lemmas.List.{take-append-le, drop-drop}
 use Rattle.ac_wav.specs.declared.fault.WavFault.{WavFault}

@@ -1,6 +1,6 @@
 -- From a piece to the samples of the list.
-use Rattle.std.proofs.Common.{replicate, unsigned_abs, lit≤, ◌^◌, ◌≡◌, ℕ, zero, suc, ◌+◌, ◌-◌, ◌*◌, ◌/◌, ◌%◌, ◌≤◌, ◌<◌, min, Bool, true, false, List, [], length, take, drop, Option, Some, None, refl, sym, subst, ap, ◌∙◌, arith, inl, inr, slice_index, slice_index_or, ℤ, pos, lt-ltb, le-ltb}
-use Rattle.std.specs.Prelude.{nat_lt, ◌&&◌, ◌==◌, if◌then◌else◌, ◌⊎◌, ◌*ℤ◌}
+use Rattle.std.proofs.Common.{replicate, unsigned_abs, lit≤, ◌^◌, ◌≡◌, ℕ, ◌+◌, ◌-◌, ◌*◌, ◌/◌, ◌%◌, ◌≤◌, ◌<◌, min, Bool, true, false, List, [], length, take, drop, Option, Some, None, refl, sym, subst, ap, ◌∙◌, arith, inl, inr, slice_index_or, ℤ, pos, lt-ltb, le-ltb}
+use Rattle.std.specs.Prelude.{nat_lt, ◌&&◌, if◌then◌else◌, ◌⊎◌, ◌*ℤ◌}
 use Rattle.std.proofs.lemmas.Bool.{cases_lt}
 use Rattle.std.proofs.lemmas.List.{drop-drop, length-take-le, get_or-replicate}
 use Rattle.std.proofs.lemmas.Nat.{le-div, div_below}
@@ -9,8 +9,7 @@ use Rattle.byteorder.specs.Endian.{little_number, twos_complement}
 use Rattle.byteorder.specs.Numbers.{little_from-take}
 use Rattle.ac_wav.specs.declared.head.WavHead.{WavHead}
 use Rattle.ac_wav.specs.Form.{IsOfProfile, stated}
-use Rattle.ac_wav.specs.Pieces.{IsAt}
-use Rattle.ac_wav.specs.Samples.{align_of, width_of, value_of, offset_of, sample_in, data_length, sample_count, sample_at, RowIs, RowsAre, RowsWithin, part_of, frame_bytes, SamplesRead, IsStanding, PartRead}
+use Rattle.ac_wav.specs.Samples.{align_of, width_of, value_of, offset_of, sample_in, data_length, RowsAre, RowsWithin, part_of, SamplesRead, PartRead}
 use Rattle.ac_wav.proofs.Chunks.{from_cut}
 use Rattle.ac_wav.proofs.Rooms.{offset_room}
 

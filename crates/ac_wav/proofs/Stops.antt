@@ -1,7 +1,7 @@
 -- From what a piece tells to the refusal of the list.
 use Rattle.std.proofs.Common.{◌≡◌, ◌≢◌, ℕ, ◌+◌, ◌-◌, ◌≤◌, ◌<◌, List, length, take, drop, Option, Some, None, refl, sym, subst, ap, ◌∙◌, arith, inl, inr, get_or}
-use Rattle.std.specs.Prelude.{codes, ◌⊎◌}
-use Rattle.std.proofs.lemmas.List.{take_all, length-take-le, take-take}
+use Rattle.std.specs.Prelude.{codes}
+use Rattle.std.proofs.lemmas.List.{take_all, take-take}
 use Rattle.ac_wav.specs.declared.fault.WavKind.{WavKind}
 use Rattle.ac_wav.specs.declared.fault.WavKind.TheVariants.{Short, NotRiff, NoFmt, NoData, BadFmt, Unsupported}
 use Rattle.ac_wav.specs.declared.fault.WavFault.{WavFault}
@@ -14,8 +14,8 @@ use Rattle.ac_wav.specs.declared.head.WavHead.{WavHead}
 use Rattle.ac_wav.specs.declared.chunk.Name.{Name}
 use Rattle.ac_wav.specs.declared.chunk.Name.TheVariants as names
 use Rattle.ac_wav.specs.Format.{format_of, fault_of, IsOfField}
-use Rattle.ac_wav.specs.Form.{name_of, size_of, padded, whole_length, body_of, IsChunk, IsRiff, IsOpen, IsFormatted, IsDataAt, IsHead, head_of}
-use Rattle.ac_wav.specs.Refusal.{Reaches, IsCutAt, IsCut, IsNoRiff, IsFaulty, Refuses, IsTooLong, IsStopped, HeadRead}
+use Rattle.ac_wav.specs.Form.{name_of, size_of, padded, whole_length, body_of, IsRiff, IsOpen, IsFormatted, head_of}
+use Rattle.ac_wav.specs.Refusal.{Reaches, IsNoRiff, IsFaulty, Refuses, IsTooLong, IsStopped, HeadRead}
 use Rattle.ac_wav.specs.Pieces.{IsAt, NameIs, ReadsOn, IsUntaken, IsNoChunk, chunk_at, FormatRead, IsFound, DataFound}
 use Rattle.ac_wav.proofs.Chunks.{from_cut, name_cut, size_cut, length_cut, within_cut, open_cut, reaches_cut, chunk_whole, chunk_long, chunk_name, formatted_first, open_more, formatted_more}
 

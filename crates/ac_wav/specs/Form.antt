@@ -1,6 +1,6 @@
 -- A WAV as a whole list of bytes: the 12-byte head, chunks that are passed over, the `fmt ` chunk, chunks that are
 -- passed over, the `data` chunk, and a rest that isn't looked at. Places count from 0 at the first byte.
-use Rattle.std.specs.Prelude.{◌≡◌, ◌≢◌, ℕ, ◌+◌, ◌%◌, ◌^◌, ◌-◌, ◌≤◌, ◌==◌, List, ◌++◌, length, take, drop, codes, All, Option, Some, None, if◌then◌else◌}
+use Rattle.std.specs.Prelude.{◌≡◌, ◌≢◌, ℕ, ◌+◌, ◌%◌, ◌-◌, ◌≤◌, ◌==◌, List, ◌++◌, length, take, drop, codes, All, Option, Some, None, if◌then◌else◌}
 use Rattle.std.specs.List.{concat}
 use Rattle.ac_wav.specs.declared.format.Format.{Format}
 use Rattle.ac_wav.specs.declared.head.WavHead.{WavHead}

@@ -1,5 +1,5 @@
 -- The samples of a WAV: 24 bits, by coded channels, LFE last. Those of 16 bits are multiplied by 256.
-use Rattle.std.specs.Prelude.{◌≡◌, ℕ, zero, ◌+◌, ◌-◌, ◌*◌, ◌/◌, ◌^◌, ◌<◌, ◌≤◌, min, ◌==◌, ◌&&◌, nat_lt, if◌then◌else◌, List, [], length, drop, take, slice_index, slice_index_or, Option, Some, None, ℤ, pos, ◌*ℤ◌, unsigned_abs}
+use Rattle.std.specs.Prelude.{◌≡◌, ℕ, ◌+◌, ◌-◌, ◌*◌, ◌/◌, ◌^◌, ◌<◌, ◌≤◌, min, ◌==◌, ◌&&◌, nat_lt, if◌then◌else◌, List, [], length, drop, take, slice_index, slice_index_or, Option, Some, None, ℤ, pos, ◌*ℤ◌, unsigned_abs}
 use Rattle.byteorder.specs.Endian.{little_number, twos_complement}
 use Rattle.ac_wav.specs.declared.fault.WavKind.TheVariants.{Short, NotRiff, NoFmt, NoData, BadFmt, Unsupported}
 use Rattle.ac_wav.specs.declared.fault.WavFault.{WavFault}

@@ -1,5 +1,5 @@
 -- The bytes of decoded sound: one head of 68 bytes in the extensible form, and samples of 24 bits.
-use Rattle.std.specs.Prelude.{ℕ, zero, suc, ◌+◌, ◌*◌, ◌==◌, Bool, if◌then◌else◌, List, [], ◌∷◌, ◌++◌, codes, slice_index, slice_index_or, ℤ, pos}
+use Rattle.std.specs.Prelude.{ℕ, zero, suc, ◌+◌, ◌*◌, Bool, if◌then◌else◌, List, [], ◌∷◌, ◌++◌, codes, slice_index, slice_index_or, ℤ, pos}
 use Rattle.std.specs.Int.{w64}
 use Rattle.byteorder.specs.Endian.{little_bytes, low_bytes}
 use Rattle.ac_wav.specs.Layout.{channel_count, first_mask, coded_of}

@@ -1,4 +1,4 @@
-use Rattle.std.proofs.Common.{◌≡◌, ◌≤◌, ◌<◌, ◌+◌, ◌*◌, ◌/◌, ℕ, List, arith, ap, sym, ◌∙◌, subst, length}
+use Rattle.std.proofs.Common.{◌≤◌, ◌<◌, ◌+◌, ◌/◌, ℕ, arith, sym, subst, length}
 use Rattle.ac_wav.specs.Samples.{align_of, SamplesRead}
 use Rattle.ac_wav.proofs.Rows.{samples_read}
 use Rattle.ac_wav.proofs.body.read_samples.Goals as goal

@@ -1,8 +1,7 @@
-use Rattle.std.proofs.Common.{◌≡◌, ◌≤◌, ◌+◌, ℕ, List, length, arith, subst, sym, ◌∙◌, inl}
+use Rattle.std.proofs.Common.{arith, sym, ◌∙◌, inl}
 use Rattle.std.specs.Prelude.{◌≢◌, codes, drop}
 use Rattle.std.proofs.lemmas.Result.{err_from_is_err_and}
-use Rattle.ac_wav.specs.Form.{padded, name_of}
-use Rattle.ac_wav.specs.Pieces.{IsUntaken}
+use Rattle.ac_wav.specs.Form.{name_of}
 use Rattle.ac_wav.proofs.Stops.{sized_stops, faulty_stops, found, names_differ}
 use Rattle.ac_wav.proofs.head.accept.Goals as goal
 

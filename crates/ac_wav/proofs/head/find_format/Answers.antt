@@ -1,4 +1,4 @@
-use Rattle.std.proofs.Common.{◌≡◌, ◌≤◌, ℕ, List, inl, subst, arith, drop}
+use Rattle.std.proofs.Common.{inl, subst, arith, drop}
 use Rattle.std.proofs.lemmas.Result.{err_from_is_err_and}
 use Rattle.ac_wav.specs.declared.chunk.Name.{Name}
 use Rattle.ac_wav.specs.Form.{name_of}

@@ -1,6 +1,5 @@
-use Rattle.std.proofs.Common.{◌≡◌, ◌≤◌, ◌+◌, ℕ, List, length, arith, subst}
+use Rattle.std.proofs.Common.{◌+◌, ℕ, subst}
 use Rattle.std.proofs.lemmas.Result.{err_from_is_err_and}
-use Rattle.ac_wav.specs.Form.{padded}
 use Rattle.ac_wav.specs.Pieces.{IsUntaken}
 use Rattle.ac_wav.proofs.Stops.{sized_stops}
 use Rattle.ac_wav.proofs.head.pass_chunk.Goals as goal

@@ -1,4 +1,4 @@
-use Rattle.std.proofs.Common.{◌≡◌, ◌≤◌, ℕ, List, Some, length, arith, drop}
+use Rattle.std.proofs.Common.{arith}
 use Rattle.ac_wav.specs.Pieces.{IsAt}
 use Rattle.ac_wav.proofs.Stops.{riff_read, no_riff_stops}
 use Rattle.ac_wav.proofs.head.read_riff.Goals as goal

@@ -1,4 +1,4 @@
-use Rattle.std.proofs.Common.{◌-◌, ◌≡◌, ℕ, ◌+◌, ◌≤◌, List, Option, Some}
+use Rattle.std.proofs.Common.{◌-◌, ℕ, ◌+◌, ◌≤◌, List}
 use Rattle.ac_wav.specs.Pieces.{IsAt}
 use Rattle.ac_wav.proofs.pieces.pass_over.Given as goal
 

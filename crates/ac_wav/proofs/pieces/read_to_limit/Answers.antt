@@ -1,4 +1,4 @@
-use Rattle.std.proofs.Common.{◌≤◌, ◌<◌, length, arith}
+use Rattle.std.proofs.Common.{length, arith}
 use Rattle.ac_wav.proofs.Limits.{one_more, no_more}
 use Rattle.ac_wav.proofs.pieces.read_to_limit.Goals as goal
 

@@ -1,4 +1,4 @@
-use Rattle.std.proofs.Common.{◌≡◌, ◌-◌, ◌<◌, length, arith, drop, take, length-take, subst, ℕ, List}
+use Rattle.std.proofs.Common.{◌≡◌, ◌-◌, ◌<◌, length, arith, drop, take, length-take, subst, ℕ}
 use Rattle.std.specs.Prelude.{MatchResult}
 use Rattle.ac_wav.specs.Pieces.{ReadsAll, IsLonger}
 use Rattle.ac_wav.proofs.Limits.{up_to_limit}

@@ -1,5 +1,5 @@
-use Rattle.std.proofs.Common.{◌≡◌, ◌≤◌, ◌+◌, ◌*◌, ◌/◌, ◌<◌, ◌^◌, ℕ, arith, ap, ◌∙◌, length, Fits, slice_index}
-use Rattle.ac_wav.specs.Samples.{align_of, width_of, offset_of}
+use Rattle.std.proofs.Common.{◌≡◌, ◌≤◌, ◌+◌, ◌*◌, arith, ap, ◌∙◌, slice_index}
+use Rattle.ac_wav.specs.Samples.{align_of, offset_of}
 use Rattle.ac_wav.proofs.Rooms.{offset_room}
 use Rattle.ac_wav.proofs.samples.place.Goals as goal
 

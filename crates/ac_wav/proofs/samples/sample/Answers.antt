@@ -1,4 +1,4 @@
-use Rattle.std.proofs.Common.{rules, ◌≡◌, ◌+◌, ◌*◌, ℕ, List, sym, ap, ◌∙◌, drop, w32, to_z, of_z}
+use Rattle.std.proofs.Common.{rules, ◌≡◌, sym, ap, ◌∙◌, drop, w32}
 use Rattle.std.proofs.Common.{arith, SFits, to_z-of_z}
 use Rattle.std.proofs.lemmas.List.{take_rest}
 use Rattle.ac_wav.specs.Samples.{value_of}

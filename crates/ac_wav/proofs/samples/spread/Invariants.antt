@@ -1,4 +1,4 @@
-use Rattle.std.proofs.Common.{◌≡◌, ◌≤◌, ◌<◌, ℕ, ◌/◌, length, slice_index_or, []}
+use Rattle.std.proofs.Common.{◌≡◌, ◌<◌, ℕ, ◌/◌, length, slice_index_or, []}
 use Rattle.ac_wav.specs.Samples.{align_of, sample_in, RowIs, RowWithin}
 use Rattle.ac_wav.proofs.samples.spread.Given as goal
 

@@ -1,4 +1,4 @@
-use Rattle.std.proofs.Common.{rules, SFits, w32, to_z-of_z, ◌≡◌, ◌+◌, ◌*◌, ◌++◌, List, ℕ, take, drop, length, arith, ap, sym, ◌∙◌, refl}
+use Rattle.std.proofs.Common.{rules, SFits, w32, to_z-of_z, ◌≡◌, ◌+◌, ◌*◌, ◌++◌, take, arith, ap, sym, ◌∙◌, refl}
 use Rattle.std.proofs.lemmas.List.{append-nil}
 use Rattle.ac_wav.specs.Written.{sample_bytes, places_bytes}
 use Rattle.ac_wav.proofs.Writes.{places_none, places_more, put_more, rest_more}

@@ -1,4 +1,4 @@
-use Rattle.std.proofs.Common.{◌≡◌, ◌+◌, ◌*◌, ◌≤◌, ◌++◌, length, take, drop}
+use Rattle.std.proofs.Common.{◌≡◌, ◌+◌, ◌*◌, ◌++◌, length, take, drop}
 use Rattle.ac_wav.specs.Written.{places_bytes}
 use Rattle.ac_wav.proofs.written.put_samples.Given as goal
 

@@ -1,4 +1,4 @@
-use Rattle.std.proofs.Common.{◌≡◌, ◌+◌, ◌*◌, ◌++◌, [], List, ℕ, take, drop, length, arith, ap, sym, ◌∙◌, refl}
+use Rattle.std.proofs.Common.{◌≡◌, ◌+◌, ◌*◌, [], take, arith, ap, sym, ◌∙◌, refl}
 use Rattle.ac_wav.specs.Written.{places_bytes, samples_bytes}
 use Rattle.ac_wav.proofs.Writes.{samples_none, samples_more, put_more, rest_more}
 use Rattle.ac_wav.proofs.written.wav_samples.Goals as goal

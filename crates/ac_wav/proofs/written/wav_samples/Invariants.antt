@@ -1,4 +1,4 @@
-use Rattle.std.proofs.Common.{◌≡◌, ◌+◌, ◌*◌, ◌≤◌, ◌++◌, length, take, drop}
+use Rattle.std.proofs.Common.{◌≡◌, ◌*◌, length, take, drop}
 use Rattle.ac_wav.specs.Written.{samples_bytes}
 use Rattle.ac_wav.proofs.written.wav_samples.Given as goal
 
