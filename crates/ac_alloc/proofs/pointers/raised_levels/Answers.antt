@@ -1,4 +1,4 @@
-use Rattle.std.proofs.Common.{◌≡◌, ◌<◌, ◌≤◌, ℤ, pos, ◌+ℤ◌, slice_index_or, length, length-set, arith, ◌∙◌, SFits, w32, rules}
+use Rattle.std.proofs.Common.{◌≡◌, ◌<◌, pos, ◌+ℤ◌, slice_index_or, length, length-set, arith, ◌∙◌, SFits, w32, rules}
 use Rattle.std.proofs.lemmas.Int.{to_z-of_z}
 use Rattle.ac_alloc.specs.Pointers.{level, kept}
 use Rattle.ac_alloc.proofs.Lists.{written_next}

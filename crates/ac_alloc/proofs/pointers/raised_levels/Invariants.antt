@@ -1,4 +1,4 @@
-use Rattle.std.proofs.Common.{◌≡◌, ℕ, ◌<◌, ◌≤◌, length, slice_index, slice_index_or, pos, ◌+ℤ◌}
+use Rattle.std.proofs.Common.{◌≡◌, ℕ, ◌<◌, length, slice_index, slice_index_or, pos, ◌+ℤ◌}
 use Rattle.ac_alloc.specs.Pointers.{level, kept}
 use Rattle.ac_alloc.proofs.pointers.raised_levels.Given as goal
 
