@@ -7,3 +7,5 @@ pub mod Rooms
 pub mod Rows
 pub mod Writes
 pub mod Unique
+pub mod Ways
+pub mod Endings

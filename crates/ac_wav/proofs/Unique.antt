@@ -7,10 +7,10 @@ use Rattle.std.proofs.Math.Seq.{take-append_seam}
 use Rattle.ac_wav.specs.Form.{size_of, whole_length, IsChunk, IsPassedBefore, IsOpen}
 use Rattle.ac_wav.proofs.Chunks.{size_take}
 
-least_long : (c : List ℕ) → IsChunk c → 8 ≤ length c
+pub least_long : (c : List ℕ) → IsChunk c → 8 ≤ length c
 least_long c h = omega (arith, h.long)
 
-front_size : (c x : List ℕ) → IsChunk c → size_of (c ++ x) ≡ size_of c
+pub front_size : (c x : List ℕ) → IsChunk c → size_of (c ++ x) ≡ size_of c
 front_size c x h =
     let long = least_long c h in
     sym (size_take 8 (c ++ x) (omega arith)) ∙ (ap size_of (take-append-le 8 c x long) ∙ size_take 8 c (omega arith))

@@ -1,0 +1,6 @@
+use super::*;
+
+#[test]
+fn the_law_of_heads_is_called() {
+    head_law();
+}
