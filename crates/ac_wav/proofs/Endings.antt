@@ -13,7 +13,7 @@ use Rattle.ac_wav.proofs.Ways.{GoesOn, HasFormat, passed_goes, formatted_has, fa
 -- ---- where the chunks end
 
 -- no chunk that can be passed over begins at this place: `data`, a cut chunk, or the list's end
-abbrev IsEnd : List ℕ → ℕ → Type 0
+abbrev pub IsEnd : List ℕ → ℕ → Type 0
 IsEnd bytes place = IsDataAt bytes place ⊎ (IsCutAt bytes place ⊎ (place ≡ length bytes))
 
 end_stays : (bytes : List ℕ) (place : ℕ) → GoesOn bytes place → IsEnd bytes place → ⊥

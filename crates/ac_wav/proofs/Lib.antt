@@ -9,3 +9,4 @@ pub mod Writes
 pub mod Unique
 pub mod Ways
 pub mod Endings
+pub mod Each

@@ -78,7 +78,7 @@ no_format_stops bytes place limit o below within named = (
   (open_cut bytes place limit (omega arith) o, record { long = within_cut bytes (place + 8) limit within below; named = name_cut bytes place limit below ∙ named }),
 )
 
-faulty : (bytes : List ℕ) (start : ℕ) (fault : Fault) → IsOpen bytes start → name_of (drop start bytes) ≡ codes "fmt " → start + whole_length (size_of (drop start bytes)) ≤ length bytes
+pub faulty : (bytes : List ℕ) (start : ℕ) (fault : Fault) → IsOpen bytes start → name_of (drop start bytes) ≡ codes "fmt " → start + whole_length (size_of (drop start bytes)) ≤ length bytes
     → fault_of (format_of (body_of (chunk_at start bytes))) ≡ Some fault → IsFaulty bytes fault.kind (start + fault.place)
 faulty bytes start fault o named within first =
     let long = chunk_long bytes start within in
@@ -111,7 +111,7 @@ faulty_cut bytes limit kind place f h = record {
   place_is = f.place_is;
 }
 
-refused : (bytes : List ℕ) (kind : WavKind) (place : ℕ) → IsOfField kind → IsFaulty bytes kind place → Refuses bytes kind place
+pub refused : (bytes : List ℕ) (kind : WavKind) (place : ℕ) → IsOfField kind → IsFaulty bytes kind place → Refuses bytes kind place
 refused bytes Short place k f = absurd k
 refused bytes NotRiff place k f = absurd k
 refused bytes NoFmt place k f = absurd k
