@@ -1,5 +1,6 @@
 use super::*;
 use crate::fault::Field;
+use crate::law::head_law;
 use ac_io::{MemSource, StdSource};
 use std::test::Fail;
 
@@ -41,6 +42,7 @@ fn read_edited(bytes: &mut [u8], first: Edit, second: Edit) -> Result<WavHead, W
 
 #[test]
 fn refused_heads(rt: HostRuntime) {
+    head_law();
     for (first, second, kind, place) in [
         ((0, 0x58464952, 4), NONE, WavKind::NotRiff, 0),
         ((8, 0x58564157, 4), NONE, WavKind::NotRiff, 8),

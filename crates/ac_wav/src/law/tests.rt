@@ -1,6 +1,0 @@
-use super::*;
-
-#[test]
-fn the_law_of_heads_is_called() {
-    head_law();
-}
