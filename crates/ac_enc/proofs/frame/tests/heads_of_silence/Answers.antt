@@ -1,4 +1,4 @@
-use Rattle.std.proofs.Common.{◌≡◌, ℕ, ◌^◌, ◌<◌, ◌≤◌, ℤ, pos, slice_index_or, unsigned_abs, replicate, sym, subst, lit≤}
+use Rattle.std.proofs.Common.{ℕ, ◌^◌, ◌<◌, ◌≤◌, ℤ, pos, slice_index_or, unsigned_abs, replicate, sym, subst, lit≤}
 use Rattle.std.proofs.lemmas.List.{get_or-replicate}
 use Rattle.ac_enc.proofs.frame.tests.heads_of_silence.Goals as goal
 
