@@ -3,6 +3,7 @@
 
 use ac_app::{Names, NullSink, Sink, Source, StdSink, StdSource, WordsFault, names, run};
 use std::fs::File;
+use std::io::ErrorKind;
 use std::process::ExitCode;
 
 /// A file couldn't be opened or created.
@@ -54,6 +55,20 @@ fn say(rt: &HostRuntime, line: &str) {
     let _ = println!(rt; "{line}");
 }
 
+/// Says why there are no words to follow, and gives the exit code.
+fn refuse(rt: &HostRuntime, fault: WordsFault) -> u8 {
+    match fault {
+        WordsFault::Usage => {
+            say(rt, "status 1 usage");
+            1
+        }
+        WordsFault::NoMemory => {
+            say(rt, "status 9 no memory");
+            9
+        }
+    }
+}
+
 fn perform(rt: &HostRuntime, words: &[String]) -> u8 {
     match names(rt.alloc(), words) {
         Ok(named) => {
@@ -63,29 +78,22 @@ fn perform(rt: &HostRuntime, words: &[String]) -> u8 {
             }
             code
         }
-        Err(WordsFault::Usage) => {
-            say(rt, "status 1 usage");
-            1
-        }
-        Err(WordsFault::NoMemory) => {
-            say(rt, "status 9 no memory");
-            9
-        }
+        Err(fault) => refuse(rt, fault),
     }
 }
 
 fn main(rt: HostRuntime) -> ExitCode {
     // Arguments that are no text, as a whole, are no words of the grammar.
-    let Ok(arguments) = std::env::args(&rt) else {
-        say(&rt, "status 1 usage");
-        return ExitCode::from(1);
+    let arguments = match std::env::args(&rt) {
+        Ok(arguments) => arguments,
+        Err(error) if error.kind() == ErrorKind::OutOfMemory => {
+            return ExitCode::from(refuse(&rt, WordsFault::NoMemory));
+        }
+        Err(_) => return ExitCode::from(refuse(&rt, WordsFault::Usage)),
     };
     let words: Vec<String> = match arguments.skip(1).collect(rt.alloc()) {
         Ok(words) => words,
-        Err(_) => {
-            say(&rt, "status 9 no memory");
-            return ExitCode::from(9);
-        }
+        Err(_) => return ExitCode::from(refuse(&rt, WordsFault::NoMemory)),
     };
     ExitCode::from(perform(&rt, words.as_slice()))
 }
