@@ -1,17 +1,20 @@
 -- What a run that did all leaves is told by the words, the input and what the sinks held.
-use Rattle.std.proofs.Common.{◌≡◌, ℕ, ◌+◌, ◌*◌, List, ◌++◌, length, Option, Some, ap, sym, subst, ◌∙◌, length-append}
+use Rattle.std.proofs.Common.{◌≡◌, ℕ, ◌+◌, ◌≤◌, List, ◌++◌, length, Option, Some, ap, sym, subst, ◌∙◌, length-append}
 use Rattle.ac_base.specs.Rates.{IsRate}
 use Rattle.ac_frame.specs.Plain.{AreBytes}
+use Rattle.ac_wav.specs.declared.head.WavHead.{WavHead}
+use Rattle.ac_wav.specs.Whole.{behind}
 use Rattle.ac_words.specs.Grammar.{Text, LastWords, encode}
 use Rattle.ac_words.specs.declared.meaning.Command.TheVariants.{Encode}
 use Rattle.ac_words.specs.declared.meaning.Options.{Options}
 use Rattle.ac_words.proofs.Split.{one_meaning}
 use Rattle.ac_app.specs.declared.status.Status.TheVariants.{Ok}
-use Rattle.ac_app.specs.Head.{data_of}
 use Rattle.ac_app.specs.Lines.{status_line}
-use Rattle.ac_app.specs.Stream.{IsStream, frame_lines}
+use Rattle.ac_app.specs.Sound.{sound_of, frames_of}
+use Rattle.ac_app.specs.Stream.{IsStream, stream_size, frame_lines}
 use Rattle.ac_app.specs.World.{Held}
-use Rattle.ac_app.specs.Run.{frames_of, AsksEncode, IsDone}
+use Rattle.ac_app.specs.Run.{AsksEncode, IsDone}
+use Rattle.ac_app.proofs.Inputs.{one_input, sampling}
 use Rattle.ac_app.proofs.Jobs.{is_rate_asked}
 use Rattle.ac_app.proofs.Laws.{size, bytes_right, one_stream}
 
@@ -37,20 +40,27 @@ pub done_once : (ws : List Text) (bytes : List ℕ) (h : Held) (left now : Optio
     → IsDone ws bytes h left (Some out) (Some said) → IsDone ws bytes h now (Some again) (Some lines) → (left ≡ now) × (out ≡ again) × (said ≡ lines)
 done_once ws bytes h left now out said again lines bs cs p q =
     let rate = one_rate ws q.rate p.rate q.asks p.asks in
-    let k = frames_of (data_of bytes) in
+    let head = one_input bytes q.head p.head q.input p.input in
+    let sound = sound_of p.head bytes in
+    let k = frames_of sound in
     let told = some_same out (h.out ++ p.stream) p.out in
     let told_again = some_same again (h.out ++ q.stream) q.out in
-    let stream_again = subst (λ (r : ℕ). IsStream r (data_of bytes) k q.stream) rate q.is_stream in
-    let same = one_stream p.rate k (data_of bytes) p.stream q.stream (asked_rate ws p.rate p.asks) (bytes_right h.out p.stream out told bs) (bytes_right h.out q.stream again told_again cs) p.is_stream stream_again in
-    let report = some_same said (h.said ++ frame_lines p.rate k ++ status_line Ok) p.said in
-    let report_again = some_same lines (h.said ++ frame_lines q.rate k ++ status_line Ok) q.said in (
-      p.left ∙ sym q.left,
+    let at_rate = subst (λ (r : ℕ). IsStream r (sound_of q.head bytes) (frames_of (sound_of q.head bytes)) q.stream) rate q.is_stream in
+    let stream_again = subst (λ (w : WavHead). IsStream p.rate (sound_of w bytes) (frames_of (sound_of w bytes)) q.stream) head at_rate in
+    let same = one_stream p.rate k sound p.stream q.stream (asked_rate ws p.rate p.asks) (sampling bytes p.head p.input) (bytes_right h.out p.stream out told bs) (bytes_right h.out q.stream again told_again cs) p.is_stream stream_again in
+    let report = some_same said (h.said ++ frame_lines p.rate sound k ++ status_line Ok) p.said in
+    let report_again = some_same lines (h.said ++ frame_lines q.rate (sound_of q.head bytes) (frames_of (sound_of q.head bytes)) ++ status_line Ok) q.said in (
+      p.left ∙ (ap (λ (w : WavHead). Some (behind w bytes)) (sym head) ∙ sym q.left),
       told ∙ (ap (λ s. h.out ++ s) same ∙ sym told_again),
-      report ∙ (ap (λ r. h.said ++ frame_lines r k ++ status_line Ok) (sym rate) ∙ sym report_again),
+      report
+      ∙ (ap (λ r. h.said ++ frame_lines r sound k ++ status_line Ok) (sym rate)
+      ∙ (ap (λ (w : WavHead). h.said ++ frame_lines q.rate (sound_of w bytes) (frames_of (sound_of w bytes)) ++ status_line Ok) (sym head) ∙ sym report_again)),
     )
 
-pub done_size : (ws : List Text) (bytes : List ℕ) (h : Held) (left said : Option (List ℕ)) (out : List ℕ) (p : IsDone ws bytes h left (Some out) said) → length out ≡ length h.out + frames_of (data_of bytes) * (4 * p.rate)
+pub done_size : (ws : List Text) (bytes : List ℕ) (h : Held) (left said : Option (List ℕ)) (out : List ℕ) (p : IsDone ws bytes h left (Some out) said)
+    → length out ≡ length h.out + stream_size p.rate (sound_of p.head bytes) (frames_of (sound_of p.head bytes))
 done_size ws bytes h left said out p =
     let told = some_same out (h.out ++ p.stream) p.out in
-    let long = size p.rate (frames_of (data_of bytes)) (data_of bytes) p.stream (asked_rate ws p.rate p.asks) p.is_stream in
+    let sound = sound_of p.head bytes in
+    let long = size p.rate (frames_of sound) sound p.stream (asked_rate ws p.rate p.asks) (sampling bytes p.head p.input) p.is_stream in
     ap length told ∙ (length-append h.out p.stream ∙ ap (λ n. length h.out + n) long)

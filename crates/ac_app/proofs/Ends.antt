@@ -1,52 +1,52 @@
 -- How a run ends.
-use Rattle.std.proofs.Common.{◌≡◌, ℕ, ◌≤◌, Bool, true, false, List, ◌++◌, length, Option, Some, refl, ap, sym, subst, ◌∙◌, arith, inl, inr}
+use Rattle.std.proofs.Common.{◌≡◌, ℕ, Bool, true, false, List, ◌++◌, Option, Some, refl, ap, ap₂, sym, subst, ◌∙◌, inl, inr}
 use Rattle.ac_words.specs.Grammar.{Text, InGrammar}
-use Rattle.ac_app.specs.declared.status.WavKind.{WavKind}
-use Rattle.ac_app.specs.declared.status.WavKind.TheVariants.{Short, NotYet}
+use Rattle.ac_wav.specs.declared.fault.WavKind.{WavKind}
+use Rattle.ac_wav.specs.declared.head.WavHead.{WavHead}
+use Rattle.ac_wav.specs.Whole.{behind}
 use Rattle.ac_app.specs.declared.status.Status.{Status}
 use Rattle.ac_app.specs.declared.status.Status.TheVariants as statuses
-use Rattle.ac_app.specs.Head.{IsPlainHead, IsPlainWav, IsCut, Refuses, data_of}
+use Rattle.ac_app.specs.Input.{limit, IsInput, Refuses, IsTooLong}
 use Rattle.ac_app.specs.Lines.{status_line}
+use Rattle.ac_app.specs.Sound.{Sound, sound_of, frames_of}
 use Rattle.ac_app.specs.Stream.{frame_lines}
 use Rattle.ac_app.specs.World.{Held}
-use Rattle.ac_app.specs.Run.{frames_of, Broke, JobTakes, JobGives, Tail, answer_of, RunGives, IsDone}
+use Rattle.ac_app.specs.Run.{Broke, JobTakes, JobGives, Tail, answer_of, RunGives, IsDone}
+use Rattle.ac_app.proofs.Inputs.{never_both, never_longer, never_refused, one_input, one_refusal}
 
 -- ---- refusals
 
--- a plain WAV is not refused
-pub plain_not_refused : (bytes : List ℕ) (kind : WavKind) (place : ℕ) → IsPlainWav bytes → Refuses bytes kind place → ⊥
-plain_not_refused bytes Short place wav (at, inl short) = omega (arith, wav.long, short)
-plain_not_refused bytes Short place wav (at, inr cut) = omega (arith, wav.long, cut.2)
-plain_not_refused bytes NotYet place wav r = r.2 wav.head
-
-cut_not_other : (bytes : List ℕ) → IsCut bytes → 44 ≤ length bytes → (IsPlainHead bytes → ⊥) → ⊥
-cut_not_other bytes (inl short) long other = omega arith
-cut_not_other bytes (inr cut) long other = other cut.0
-
--- a list has one refusal
-pub one_refusal : (bytes : List ℕ) (kind other : WavKind) (place there : ℕ) → Refuses bytes kind place → Refuses bytes other there → statuses.BadWav kind place ≡ statuses.BadWav other there
-one_refusal bytes Short Short place there r s = ap (λ p. statuses.BadWav Short p) (r.0 ∙ sym s.0)
-one_refusal bytes Short NotYet place there r s = absurd (cut_not_other bytes r.1 s.1 s.2)
-one_refusal bytes NotYet Short place there r s = absurd (cut_not_other bytes s.1 r.1 r.2)
-one_refusal bytes NotYet NotYet place there r s = ap (λ p. statuses.BadWav NotYet p) (r.0 ∙ sym s.0)
-
 pub refused_is : (ws : List Text) (result : Status) (bytes : List ℕ) (left : Option (List ℕ)) (kind : WavKind) (place : ℕ) → JobTakes ws result bytes left → InGrammar ws → Refuses bytes kind place
     → (result ≡ statuses.ReadFault → ⊥) → (result ≡ statuses.NoMemory → ⊥) → result ≡ statuses.BadWav kind place
-refused_is ws statuses.Ok bytes left kind place t g r p q = absurd (plain_not_refused bytes kind place t.1.0 r)
+refused_is ws statuses.Ok bytes left kind place t g r p q = absurd (never_both bytes t.1.0 kind place t.1.1 r)
 refused_is ws statuses.Usage bytes left kind place t g r p q = absurd (t.0 g)
-refused_is ws (statuses.BadWav other there) bytes left kind place t g r p q = one_refusal bytes other kind there place t.1 r
+refused_is ws (statuses.BadWav other there) bytes left kind place t g r p q =
+    let e = one_refusal bytes other kind there place t.1 r in
+    ap₂ (λ (k : WavKind) (n : ℕ). statuses.BadWav k n) e.0 e.1
 refused_is ws statuses.ReadFault bytes left kind place t g r p q = absurd (p refl)
-refused_is ws statuses.WriteFault bytes left kind place t g r p q = absurd (plain_not_refused bytes kind place t.1.0 r)
+refused_is ws statuses.WriteFault bytes left kind place t g r p q = absurd (never_both bytes t.1.0 kind place t.1.1 r)
 refused_is ws statuses.NoMemory bytes left kind place t g r p q = absurd (q refl)
+refused_is ws (statuses.TooLong most) bytes left kind place t g r p q = absurd (never_refused bytes kind place r t.1.0)
 
-pub complete_is : (ws : List Text) (result : Status) (bytes : List ℕ) (left : Option (List ℕ)) → JobTakes ws result bytes left → InGrammar ws → IsPlainWav bytes
+pub too_long_is : (ws : List Text) (result : Status) (bytes : List ℕ) (left : Option (List ℕ)) → JobTakes ws result bytes left → InGrammar ws → IsTooLong bytes
+    → (result ≡ statuses.ReadFault → ⊥) → (result ≡ statuses.NoMemory → ⊥) → result ≡ statuses.TooLong limit
+too_long_is ws statuses.Ok bytes left t g r p q = absurd (never_longer bytes t.1.0 t.1.1 r)
+too_long_is ws statuses.Usage bytes left t g r p q = absurd (t.0 g)
+too_long_is ws (statuses.BadWav kind place) bytes left t g r p q = absurd (never_refused bytes kind place t.1 r)
+too_long_is ws statuses.ReadFault bytes left t g r p q = absurd (p refl)
+too_long_is ws statuses.WriteFault bytes left t g r p q = absurd (never_longer bytes t.1.0 t.1.1 r)
+too_long_is ws statuses.NoMemory bytes left t g r p q = absurd (q refl)
+too_long_is ws (statuses.TooLong most) bytes left t g r p q = ap (λ n. statuses.TooLong n) t.1.1
+
+pub complete_is : (ws : List Text) (result : Status) (bytes : List ℕ) (left : Option (List ℕ)) (head : WavHead) → JobTakes ws result bytes left → InGrammar ws → IsInput bytes head
     → (result ≡ statuses.ReadFault → ⊥) → (result ≡ statuses.WriteFault → ⊥) → (result ≡ statuses.NoMemory → ⊥) → result ≡ statuses.Ok
-complete_is ws statuses.Ok bytes left t g wav p q m = refl
-complete_is ws statuses.Usage bytes left t g wav p q m = absurd (t.0 g)
-complete_is ws (statuses.BadWav kind place) bytes left t g wav p q m = absurd (plain_not_refused bytes kind place wav t.1)
-complete_is ws statuses.ReadFault bytes left t g wav p q m = absurd (p refl)
-complete_is ws statuses.WriteFault bytes left t g wav p q m = absurd (q refl)
-complete_is ws statuses.NoMemory bytes left t g wav p q m = absurd (m refl)
+complete_is ws statuses.Ok bytes left head t g wav p q m = refl
+complete_is ws statuses.Usage bytes left head t g wav p q m = absurd (t.0 g)
+complete_is ws (statuses.BadWav kind place) bytes left head t g wav p q m = absurd (never_both bytes head kind place wav t.1)
+complete_is ws statuses.ReadFault bytes left head t g wav p q m = absurd (p refl)
+complete_is ws statuses.WriteFault bytes left head t g wav p q m = absurd (q refl)
+complete_is ws statuses.NoMemory bytes left head t g wav p q m = absurd (m refl)
+complete_is ws (statuses.TooLong most) bytes left head t g wav p q m = absurd (never_longer bytes head wav t.1.0)
 
 -- ---- the answer
 
@@ -64,6 +64,8 @@ takes_answer ws statuses.WriteFault true bytes left t = t
 takes_answer ws statuses.WriteFault false bytes left t = t
 takes_answer ws statuses.NoMemory true bytes left t = t
 takes_answer ws statuses.NoMemory false bytes left t = t
+takes_answer ws (statuses.TooLong most) true bytes left t = t
+takes_answer ws (statuses.TooLong most) false bytes left t = t
 
 pub ok_answer : (status : Status) (whole : Bool) → answer_of status whole ≡ statuses.Ok → (status ≡ statuses.Ok) × (whole ≡ true)
 ok_answer statuses.Ok true e = (refl, refl)
@@ -78,23 +80,26 @@ ok_answer statuses.WriteFault true e = absurd cc
 ok_answer statuses.WriteFault false e = absurd cc
 ok_answer statuses.NoMemory true e = absurd cc
 ok_answer statuses.NoMemory false e = absurd cc
+ok_answer (statuses.TooLong most) true e = absurd cc
+ok_answer (statuses.TooLong most) false e = absurd cc
 
 -- ---- what a job leaves in the report is told
 
 abbrev IsTold : Option (List ℕ) → Type 0
 IsTold said = (before : List ℕ) × (said ≡ Some before)
 
-stream_tells : (rate : ℕ) (bytes : List ℕ) (h : Held) (out said : Option (List ℕ)) → Broke rate bytes h out said → IsTold said
-stream_tells rate bytes h out said (k, below, (after, f, inl failed)) = (after.said, failed.said)
-stream_tells rate bytes h out said (k, below, (after, f, inr failed)) = (_, failed.said)
+stream_tells : (rate : ℕ) (s : Sound) (h : Held) (out said : Option (List ℕ)) → Broke rate s h out said → IsTold said
+stream_tells rate s h out said (k, below, (after, f, inl failed)) = (after.said, failed.said)
+stream_tells rate s h out said (k, below, (after, f, inr failed)) = (_, failed.said)
 
 pub job_tells : (ws : List Text) (status : Status) (bytes : List ℕ) (h : Held) (out said : Option (List ℕ)) → JobGives ws status bytes h out said → IsTold said
-job_tells ws statuses.Ok bytes h out said g = (_, g.2.2.1)
+job_tells ws statuses.Ok bytes h out said g = (_, g.2.2.2.1)
 job_tells ws statuses.Usage bytes h out said g = (_, g.1)
 job_tells ws (statuses.BadWav kind place) bytes h out said g = (_, g.2.1)
 job_tells ws statuses.ReadFault bytes h out said g = (_, g.2.1)
-job_tells ws statuses.WriteFault bytes h out said g = stream_tells g.0 (data_of bytes) h out said g.2
+job_tells ws statuses.WriteFault bytes h out said g = stream_tells g.0 (sound_of g.2.0 bytes) h out said g.2.2
 job_tells ws statuses.NoMemory bytes h out said g = (_, g.1)
+job_tells ws (statuses.TooLong most) bytes h out said g = (_, g.2.1)
 
 -- ---- all is done
 
@@ -107,16 +112,20 @@ all_done ws bytes h left out said t r =
     let job = subst (λ (s : Status). JobGives ws s bytes h out (Some r.before)) a.0 r.job in
     let line = subst (λ (s : Status). Tail r.whole said r.before (status_line s)) a.0 r.line in
     let whole = subst (λ (w : Bool). Tail w said r.before (status_line statuses.Ok)) a.1 line in
-    let f = job.2.1 in
-    let before : r.before ≡ h.said ++ frame_lines job.0 (frames_of (data_of bytes)) = some_same _ _ job.2.2.1 ∙ f.said in
+    let head = job.2.0 in
+    let leaves = job.2.2 in
+    let f = leaves.1 in
+    let same = one_input bytes t.1.0 head t.1.1 job.2.1 in
+    let before : r.before ≡ h.said ++ frame_lines job.0 (sound_of head bytes) (frames_of (sound_of head bytes)) = some_same _ _ leaves.2.1 ∙ f.said in
     record {
       rate = job.0;
       asks = job.1;
-      wav = t.1.0;
-      left = t.1.1;
+      head = head;
+      input = job.2.1;
+      left = t.1.2 ∙ ap (λ (w : WavHead). Some (behind w bytes)) same;
       stream = f.stream;
       is_stream = f.is_stream;
-      out = job.2.2.0 ∙ ap (λ l. Some l) f.out;
+      out = leaves.2.0 ∙ ap (λ l. Some l) f.out;
       said = whole ∙ ap (λ l. Some (l ++ status_line statuses.Ok)) before;
     }
 

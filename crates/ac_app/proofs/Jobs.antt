@@ -31,6 +31,7 @@ job_takes ws (statuses.BadWav kind place) bytes left g h = (g, h)
 job_takes ws statuses.ReadFault bytes left g h = (g, h)
 job_takes ws statuses.WriteFault bytes left g h = (g, h)
 job_takes ws statuses.NoMemory bytes left g h = tt
+job_takes ws (statuses.TooLong most) bytes left g h = (g, h)
 
 pub job_gives : (ws : List Text) (rate : ℕ) (status : Status) (bytes : List ℕ) (h : Held) (out said : Option (List ℕ)) → AsksEncode ws rate → EncodeGives rate status bytes h out said → JobGives ws status bytes h out said
 job_gives ws rate statuses.Ok bytes h out said a e = (rate, a, e)
@@ -39,3 +40,4 @@ job_gives ws rate (statuses.BadWav kind place) bytes h out said a e = (rate, a, 
 job_gives ws rate statuses.ReadFault bytes h out said a e = (rate, a, e)
 job_gives ws rate statuses.WriteFault bytes h out said a e = (rate, a, e)
 job_gives ws rate statuses.NoMemory bytes h out said a e = e
+job_gives ws rate (statuses.TooLong most) bytes h out said a e = (rate, a, e)

@@ -1,6 +1,5 @@
-pub mod Heads
-pub mod Datas
-pub mod Samples
+pub mod Inputs
+pub mod Gathers
 pub mod Places
 pub mod Streams
 pub mod Jobs

@@ -3,27 +3,27 @@ use Rattle.std.proofs.Common.{◌≡◌, ℕ, suc, ◌+◌, ◌-◌, ◌*◌, �
 use Rattle.std.specs.Prelude.{slice_range, if◌then◌else◌}
 use Rattle.std.proofs.lemmas.Bool.{cases_lt, lt-ltb, le-ltb}
 use Rattle.std.proofs.lemmas.List.{append-nil, get_or_append_left, get_or-append-add, get_or-drop, get_or-take, get_or-replicate}
-use Rattle.ac_base.specs.Sigma.{Within}
-use Rattle.ac_base.specs.Sigma.{Lists}
+use Rattle.ac_base.specs.Sigma.{Within, Lists}
+use Rattle.ac_base.specs.Sizes.{frame_words_of}
 use Rattle.ac_enc.specs.Frame.{IsFrame, joined}
 use Rattle.ac_enc.proofs.Places.{frame_same}
-use Rattle.ac_app.specs.Sound.{sample_of, sound_at}
+use Rattle.ac_app.specs.Sound.{Sound, AreSamples, sound_at}
 use Rattle.ac_app.specs.Lines.{frame_line}
 use Rattle.ac_app.specs.Stream.{places, IsStream, frame_lines, frame_size}
-use Rattle.ac_app.specs.World.{Held, Holds, Frames, Wrote, Emits, Stops, IsBefore, IsLast, FrameLeaves, FramesLeave}
+use Rattle.ac_app.specs.World.{Held, Holds, Frames, Wrote, Emits, Stops, IsLast, FrameLeaves, FramesLeave}
 use Rattle.ac_app.specs.declared.frames.Stop.{Stop}
 use Rattle.ac_app.specs.declared.frames.Stop.TheVariants as stops
 
-before_sound : (bytes : List ℕ) (p : ℕ) → p < 256 → sound_at bytes p ≡ pos 0
+before_sound : (s : Sound) (p : ℕ) → p < 256 → sound_at s p ≡ pos 0
 unfolding sound_at
-before_sound bytes p h = ap (λ b. if b then pos 0 else sample_of bytes (p - 256)) (lt-ltb p 256 h)
+before_sound s p h = ap (λ b. if b then pos 0 else s.sample (p - 256)) (lt-ltb p 256 h)
 
-in_sound : (bytes : List ℕ) (p j : ℕ) → p ≡ 256 + j → sound_at bytes p ≡ sample_of bytes j
+in_sound : (s : Sound) (p j : ℕ) → p ≡ 256 + j → sound_at s p ≡ s.sample j
 unfolding sound_at
-in_sound bytes p j e =
+in_sound s p j e =
     let late : 256 ≤ p = omega arith in
     let same : p - 256 ≡ j = omega arith in
-    ap (λ b. if b then pos 0 else sample_of bytes (p - 256)) (le-ltb p 256 late) ∙ ap (sample_of bytes) same
+    ap (λ b. if b then pos 0 else s.sample (p - 256)) (le-ltb p 256 late) ∙ ap (s.sample) same
 
 zeros_at : (last : List ℤ) → last ≡ replicate 256 (pos 0) → (p : ℕ) → p < 256 → slice_index_or last p (pos 0) ≡ pos 0
 zeros_at last zeros p below = ap (λ l. slice_index_or l p (pos 0)) zeros ∙ get_or-replicate 256 p (pos 0) (pos 0) below
@@ -31,38 +31,42 @@ zeros_at last zeros p below = ap (λ l. slice_index_or l p (pos 0)) zeros ∙ ge
 pub silent_bound : (last : List ℤ) → last ≡ replicate 256 (pos 0) → Within (2 ^ 23) 256 last
 silent_bound last zeros p below = subst (λ (z : ℤ). unsigned_abs z ≤ 2 ^ 23) (sym (zeros_at last zeros p below)) (lit≤ tt)
 
-pub silent : (bytes : List ℕ) (last : List ℤ) → last ≡ replicate 256 (pos 0) → IsLast bytes 0 last
-silent bytes last zeros p below = zeros_at last zeros p below ∙ sym (before_sound bytes (1536 * 0 + p) (omega arith))
+pub silent : (s : Sound) (last : List ℤ) → last ≡ replicate 256 (pos 0) → IsLast s 0 last
+silent s last zeros p below = zeros_at last zeros p below ∙ sym (before_sound s (1536 * 0 + p) (omega arith))
 
-own_place : (bytes : List ℕ) (i p t : ℕ) (pcm : List ℤ) → p ≡ 256 + t → t < 1536 → Lists 1536 (λ t'. sample_of bytes (1536 * i + t')) pcm → slice_index_or pcm t (pos 0) ≡ places bytes i p
-own_place bytes i p t pcm e below lists =
-    lists t below ∙ sym (in_sound bytes (1536 * i + p) (1536 * i + t) (omega arith))
+own_place : (s : Sound) (i p t : ℕ) (pcm : List ℤ) → p ≡ 256 + t → t < 1536 → Lists 1536 (λ t'. s.sample (1536 * i + t')) pcm → slice_index_or pcm t (pos 0) ≡ places s i p
+own_place s i p t pcm e below lists =
+    lists t below ∙ sym (in_sound s (1536 * i + p) (1536 * i + t) (omega arith))
 
-joined_places : (bytes : List ℕ) (i : ℕ) (last pcm : List ℤ) → length last ≡ 256 → IsLast bytes i last → Lists 1536 (λ t. sample_of bytes (1536 * i + t)) pcm
-    → (p : ℕ) → p < 1792 → joined last pcm p ≡ places bytes i p
-joined_places bytes i last pcm long before lists p below =
+-- the samples that were gathered are those of the sound
+pub own_samples : (s : Sound) (samples pcm : List ℤ) (i : ℕ) → AreSamples s samples → Lists 1536 (λ t. slice_index_or samples (1536 * i + t) (pos 0)) pcm → Lists 1536 (λ t. s.sample (1536 * i + t)) pcm
+own_samples s samples pcm i are lists t below = lists t below ∙ are.each (1536 * i + t)
+
+joined_places : (s : Sound) (i : ℕ) (last pcm : List ℤ) → length last ≡ 256 → IsLast s i last → Lists 1536 (λ t. s.sample (1536 * i + t)) pcm
+    → (p : ℕ) → p < 1792 → joined last pcm p ≡ places s i p
+joined_places s i last pcm long before lists p below =
     elim (cases_lt p 256) [
       | inl h ↦ get_or_append_left last pcm (pos 0) p (omega arith) ∙ before p h
       | inr h ↦
           let at : p ≡ length last + (p - 256) = omega arith in
           ap (λ n. slice_index_or (last ++ pcm) n (pos 0)) at
-          ∙ (get_or-append-add last pcm (p - 256) (pos 0) ∙ own_place bytes i p (p - 256) pcm (omega arith) (omega arith) lists)
+          ∙ (get_or-append-add last pcm (p - 256) (pos 0) ∙ own_place s i p (p - 256) pcm (omega arith) (omega arith) lists)
     ]
 
-pub frame_at : (rate : ℕ) (bytes : List ℕ) (i : ℕ) (last pcm : List ℤ) (frame : List ℕ) → length last ≡ 256 → IsLast bytes i last → Lists 1536 (λ t. sample_of bytes (1536 * i + t)) pcm
-    → IsFrame rate (joined last pcm) frame → IsFrame rate (places bytes i) frame
-frame_at rate bytes i last pcm frame long before lists is =
-    frame_same rate (joined last pcm) (places bytes i) frame (joined_places bytes i last pcm long before lists) is
+pub frame_told : (rate fscod : ℕ) (s : Sound) (i : ℕ) (last pcm : List ℤ) (frame : List ℕ) → s.fscod ≡ fscod → length last ≡ 256 → IsLast s i last → Lists 1536 (λ t. s.sample (1536 * i + t)) pcm
+    → IsFrame rate fscod i (joined last pcm) frame → IsFrame rate fscod i (places s i) frame
+frame_told rate fscod s i last pcm frame same long before lists is =
+    frame_same rate fscod i (joined last pcm) (places s i) frame (joined_places s i last pcm long before lists) is
 
 from_range : (pcm : List ℤ) (p : ℕ) → p < 256 → slice_index_or (slice_range pcm 1280 1536) p (pos 0) ≡ slice_index_or pcm (1280 + p) (pos 0)
 from_range pcm p below = get_or-take 256 (drop 1280 pcm) p (pos 0) below ∙ get_or-drop 1280 pcm p (pos 0)
 
-pub last_next : (bytes : List ℕ) (i : ℕ) (pcm last : List ℤ) → last ≡ slice_range pcm 1280 1536 → Lists 1536 (λ t. sample_of bytes (1536 * i + t)) pcm → IsLast bytes (i + 1) last
-last_next bytes i pcm last same lists p below =
+pub last_next : (s : Sound) (i : ℕ) (pcm last : List ℤ) → last ≡ slice_range pcm 1280 1536 → Lists 1536 (λ t. s.sample (1536 * i + t)) pcm → IsLast s (i + 1) last
+last_next s i pcm last same lists p below =
     let at : 1536 * (i + 1) + p ≡ 1536 * i + (1536 + p) = omega arith in
     ap (λ l. slice_index_or l p (pos 0)) same
     ∙ (from_range pcm p below
-    ∙ (own_place bytes i (1536 + p) (1280 + p) pcm (omega arith) (omega arith) lists ∙ sym (ap (sound_at bytes) at)))
+    ∙ (own_place s i (1536 + p) (1280 + p) pcm (omega arith) (omega arith) lists ∙ sym (ap (sound_at s) at)))
 
 pub last_bound : (pcm last : List ℤ) → last ≡ slice_range pcm 1280 1536 → Within (2 ^ 23) 1536 pcm → Within (2 ^ 23) 256 last
 last_bound pcm last same within p below =
@@ -71,44 +75,49 @@ last_bound pcm last same within p below =
 
 -- ---- one frame
 
-pub frame_leaves : (rate : ℕ) (bytes : List ℕ) (i : ℕ) (result : Result (Unit {0}) Stop) (h : Held) (last : List ℤ) (left out said : Option (List ℕ)) (frame : List ℕ)
-    → length frame ≡ 4 * rate → IsFrame rate (places bytes i) frame → IsLast bytes (i + 1) last → IsBefore bytes (i + 1) left
-    → Emits i frame result h out said → FrameLeaves rate bytes i result h last left out said
-frame_leaves rate bytes i (Ok u) h last left out said frame long is next after e =
-    let size : length frame ≡ frame_size rate i = omega arith in
-    (record { frame = frame; is_frame = is; out = e.0; said = e.1 ∙ ap (λ n. Some (h.said ++ frame_line i n)) size }, next, after)
-frame_leaves rate bytes i (Err stops.Read) h last left out said frame long is next after e = absurd e
-frame_leaves rate bytes i (Err stops.Output) h last left out said frame long is next after e =
+frame_leaves : (rate : ℕ) (s : Sound) (i : ℕ) (result : Result (Unit {0}) Stop) (h : Held) (last : List ℤ) (out said : Option (List ℕ)) (frame : List ℕ)
+    → length frame ≡ frame_size rate s i → IsFrame rate s.fscod i (places s i) frame → IsLast s (i + 1) last
+    → Emits i frame result h out said → FrameLeaves rate s i result h last out said
+frame_leaves rate s i (Ok u) h last out said frame size is next e =
+    (record { frame = frame; is_frame = is; out = e.0; said = e.1 ∙ ap (λ n. Some (h.said ++ frame_line i n)) size }, next)
+frame_leaves rate s i (Err stops.Output) h last out said frame size is next e =
     record { frame = frame; is_frame = is; taken = e.0.0; out = e.0.1; said = e.1 }
-frame_leaves rate bytes i (Err stops.Report) h last left out said frame long is next after e =
-    let size : length frame ≡ frame_size rate i = omega arith in
+frame_leaves rate s i (Err stops.Report) h last out said frame size is next e =
     record { frame = frame; is_frame = is; out = e.0; taken = e.1.0; said = e.1.1 ∙ ap (λ n. Some (h.said ++ take e.1.0 (frame_line i n))) size }
+
+pub frame_emitted : (rate fscod : ℕ) (s : Sound) (i : ℕ) (result : Result (Unit {0}) Stop) (h : Held) (last : List ℤ) (out said : Option (List ℕ)) (frame : List ℕ)
+    → s.fscod ≡ fscod → length frame ≡ 2 * frame_words_of rate fscod i → IsFrame rate fscod i (places s i) frame → IsLast s (i + 1) last
+    → Emits i frame result h out said → FrameLeaves rate s i result h last out said
+frame_emitted rate fscod s i result h last out said frame same long is next e =
+    let size : length frame ≡ frame_size rate s i = long ∙ ap (λ f. 2 * frame_words_of rate f i) (sym same) in
+    let frame_is = subst (λ (f : ℕ). IsFrame rate f i (places s i) frame) (sym same) is in
+    frame_leaves rate s i result h last out said frame size frame_is next e
 
 -- ---- the frames
 
-pub no_frames : (rate : ℕ) (bytes : List ℕ) (h : Held) → Frames rate bytes 0 h h
+pub no_frames : (rate : ℕ) (s : Sound) (h : Held) → Frames rate s 0 h h
 unfolding IsStream frame_lines
-no_frames rate bytes h = record { stream = []; is_stream = refl; out = sym (append-nil h.out); said = sym (append-nil h.said) }
+no_frames rate s h = record { stream = []; is_stream = refl; out = sym (append-nil h.out); said = sym (append-nil h.said) }
 
-pub one_more : (rate : ℕ) (bytes : List ℕ) (k : ℕ) (h after : Held) (out said : Option (List ℕ)) → Frames rate bytes k h after → Wrote rate bytes k after out said
-    → (next : Held) × Frames rate bytes (k + 1) h next × Holds next out said
+pub one_more : (rate : ℕ) (s : Sound) (k : ℕ) (h after : Held) (out said : Option (List ℕ)) → Frames rate s k h after → Wrote rate s k after out said
+    → (next : Held) × Frames rate s (k + 1) h next × Holds next out said
 unfolding IsStream frame_lines
-one_more rate bytes k h after out said f w =
+one_more rate s k h after out said f w =
     let more : suc k ≡ k + 1 = omega arith in
-    let line = frame_line k (frame_size rate k) in
-    let is_stream : IsStream rate bytes (suc k) (f.stream ++ w.frame) = (f.stream, w.frame, f.is_stream, w.is_frame, refl) in
+    let line = frame_line k (frame_size rate s k) in
+    let is_stream : IsStream rate s (suc k) (f.stream ++ w.frame) = (f.stream, w.frame, f.is_stream, w.is_frame, refl) in
     let out_is : after.out ++ w.frame ≡ h.out ++ (f.stream ++ w.frame) = ap (λ l. l ++ w.frame) f.out ∙ append_assoc h.out f.stream w.frame in
-    let said_is : after.said ++ line ≡ h.said ++ frame_lines rate (suc k) = ap (λ l. l ++ line) f.said ∙ append_assoc h.said (frame_lines rate k) line in (
+    let said_is : after.said ++ line ≡ h.said ++ frame_lines rate s (suc k) = ap (λ l. l ++ line) f.said ∙ append_assoc h.said (frame_lines rate s k) line in (
       record { out = after.out ++ w.frame; said = after.said ++ line },
       record {
         stream = f.stream ++ w.frame;
-        is_stream = subst (λ (n : ℕ). IsStream rate bytes n (f.stream ++ w.frame)) more is_stream;
+        is_stream = subst (λ (n : ℕ). IsStream rate s n (f.stream ++ w.frame)) more is_stream;
         out = out_is;
-        said = said_is ∙ ap (λ n. h.said ++ frame_lines rate n) more;
+        said = said_is ∙ ap (λ n. h.said ++ frame_lines rate s n) more;
       },
       (w.out, w.said),
     )
 
-pub stopped : (rate : ℕ) (bytes : List ℕ) (count i : ℕ) (stop : Stop) (h after : Held) (out said : Option (List ℕ)) → i < count → Frames rate bytes i h after
-    → Stops stop rate bytes i after out said → FramesLeave rate bytes count (Err stop) h out said
-stopped rate bytes count i stop h after out said below f s = (i, below, (after, f, s))
+pub stopped : (rate : ℕ) (s : Sound) (count i : ℕ) (stop : Stop) (h after : Held) (out said : Option (List ℕ)) → i < count → Frames rate s i h after
+    → Stops stop rate s i after out said → FramesLeave rate s count (Err stop) h out said
+stopped rate s count i stop h after out said below f stops_so = (i, below, (after, f, stops_so))

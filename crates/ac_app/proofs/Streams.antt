@@ -1,30 +1,45 @@
--- From the frames to the stream of the data.
-use Rattle.std.proofs.Common.{◌≡◌, ℕ, ◌<◌, List, Option, Ok, Err, subst, inl, inr}
+-- From the frames to the stream of the sound.
+use Rattle.std.proofs.Common.{◌≡◌, ◌⊎◌, ℕ, ◌<◌, List, Option, Ok, Err, subst, sym, inl, inr}
 use Rattle.ac_app.specs.declared.frames.Stop.{Stop}
 use Rattle.ac_app.specs.declared.frames.Stop.TheVariants as stops
-use Rattle.ac_app.specs.declared.status.Status.TheVariants as statuses
-use Rattle.ac_app.specs.World.{Held, Frames, Stops, FramesLeave}
 use Rattle.ac_app.specs.declared.status.Status.{Status}
-use Rattle.ac_app.specs.Head.{data_of}
-use Rattle.ac_app.specs.Run.{frames_of, Broke, StreamLeaves, EncodeGives}
+use Rattle.ac_app.specs.declared.status.Status.TheVariants as statuses
+use Rattle.ac_app.specs.declared.input.Gathered.{Gathered}
+use Rattle.ac_app.specs.Input.{IsInput, HasRead}
+use Rattle.ac_app.specs.Sound.{Sound, sound_of, frames_of}
+use Rattle.ac_app.specs.World.{Held, Frames, Stops, FramesLeave}
+use Rattle.ac_app.specs.Run.{Broke, StreamLeaves, Taken, EncodeTakes, EncodeGives}
 
-pub wrote_all : (rate : ℕ) (bytes : List ℕ) (count : ℕ) (h : Held) (out said : Option (List ℕ)) → count ≡ frames_of bytes → FramesLeave rate bytes count (Ok tt) h out said → StreamLeaves rate bytes statuses.Ok h out said
-wrote_all rate bytes count h out said e f = (f.0, subst (λ (k : ℕ). Frames rate bytes k h f.0) e f.1, f.2)
+pub wrote_all : (rate : ℕ) (s : Sound) (count : ℕ) (h : Held) (out said : Option (List ℕ)) → count ≡ frames_of s → FramesLeave rate s count (Ok tt) h out said → StreamLeaves rate s statuses.Ok h out said
+wrote_all rate s count h out said e f = (f.0, subst (λ (k : ℕ). Frames rate s k h f.0) e f.1, f.2)
 
-pub broke_output : (rate : ℕ) (bytes : List ℕ) (count : ℕ) (stop : Stop) (h : Held) (out said : Option (List ℕ)) → count ≡ frames_of bytes → stop ≡ stops.Output → FramesLeave rate bytes count (Err stop) h out said → Broke rate bytes h out said
-broke_output rate bytes count stop h out said e is f =
-    let s = subst (λ (x : Stop). Stops x rate bytes f.0 f.2.0 out said) is f.2.2 in
-    (f.0, subst (λ (k : ℕ). f.0 < k) e f.1, (f.2.0, f.2.1, inl s))
+pub broke_output : (rate : ℕ) (s : Sound) (count : ℕ) (stop : Stop) (h : Held) (out said : Option (List ℕ)) → count ≡ frames_of s → stop ≡ stops.Output → FramesLeave rate s count (Err stop) h out said → Broke rate s h out said
+broke_output rate s count stop h out said e is f =
+    let stopped = subst (λ (x : Stop). Stops x rate s f.0 f.2.0 out said) is f.2.2 in
+    (f.0, subst (λ (k : ℕ). f.0 < k) e f.1, (f.2.0, f.2.1, inl stopped))
 
-pub broke_report : (rate : ℕ) (bytes : List ℕ) (count : ℕ) (stop : Stop) (h : Held) (out said : Option (List ℕ)) → count ≡ frames_of bytes → stop ≡ stops.Report → FramesLeave rate bytes count (Err stop) h out said → Broke rate bytes h out said
-broke_report rate bytes count stop h out said e is f =
-    let s = subst (λ (x : Stop). Stops x rate bytes f.0 f.2.0 out said) is f.2.2 in
-    (f.0, subst (λ (k : ℕ). f.0 < k) e f.1, (f.2.0, f.2.1, inr s))
+pub broke_report : (rate : ℕ) (s : Sound) (count : ℕ) (stop : Stop) (h : Held) (out said : Option (List ℕ)) → count ≡ frames_of s → stop ≡ stops.Report → FramesLeave rate s count (Err stop) h out said → Broke rate s h out said
+broke_report rate s count stop h out said e is f =
+    let stopped = subst (λ (x : Stop). Stops x rate s f.0 f.2.0 out said) is f.2.2 in
+    (f.0, subst (λ (k : ℕ). f.0 < k) e f.1, (f.2.0, f.2.1, inr stopped))
 
-pub gives_stream : (rate : ℕ) (status : Status) (bytes taken : List ℕ) (h : Held) (out said : Option (List ℕ)) → taken ≡ data_of bytes → StreamLeaves rate taken status h out said → EncodeGives rate status bytes h out said
-gives_stream rate statuses.Ok bytes taken h out said e s = subst (λ (l : List ℕ). StreamLeaves rate l statuses.Ok h out said) e s
-gives_stream rate statuses.Usage bytes taken h out said e s = absurd s
-gives_stream rate (statuses.BadWav kind place) bytes taken h out said e s = absurd s
-gives_stream rate statuses.ReadFault bytes taken h out said e s = absurd s
-gives_stream rate statuses.WriteFault bytes taken h out said e s = subst (λ (l : List ℕ). StreamLeaves rate l statuses.WriteFault h out said) e s
-gives_stream rate statuses.NoMemory bytes taken h out said e s = absurd s
+-- ---- the samples that were read are those of the input
+
+pub is_input : (bytes : List ℕ) (g : Gathered) (left : Option (List ℕ)) (r : HasRead bytes g left) → IsInput bytes r.head
+is_input bytes g left r = record { wav = r.all.wav; mono = r.mono }
+
+pub taken : (bytes : List ℕ) (g : Gathered) (left : Option (List ℕ)) → HasRead bytes g left → Taken bytes left
+taken bytes g left r = (r.head, is_input bytes g left r, r.all.left)
+
+pub takes_stream : (status : Status) (bytes : List ℕ) (g : Gathered) (left : Option (List ℕ)) → (status ≡ statuses.Ok) ⊎ (status ≡ statuses.WriteFault) → HasRead bytes g left → EncodeTakes status bytes left
+takes_stream status bytes g left (inl e) r = subst (λ (s : Status). EncodeTakes s bytes left) (sym e) (taken bytes g left r)
+takes_stream status bytes g left (inr e) r = subst (λ (s : Status). EncodeTakes s bytes left) (sym e) (taken bytes g left r)
+
+pub gives_stream : (rate : ℕ) (status : Status) (bytes : List ℕ) (g : Gathered) (h : Held) (left out said : Option (List ℕ)) (r : HasRead bytes g left) → StreamLeaves rate (sound_of r.head bytes) status h out said → EncodeGives rate status bytes h out said
+gives_stream rate statuses.Ok bytes g h left out said r leaves = (r.head, is_input bytes g left r, leaves)
+gives_stream rate statuses.Usage bytes g h left out said r leaves = absurd leaves
+gives_stream rate (statuses.BadWav kind place) bytes g h left out said r leaves = absurd leaves
+gives_stream rate statuses.ReadFault bytes g h left out said r leaves = absurd leaves
+gives_stream rate statuses.WriteFault bytes g h left out said r leaves = (r.head, is_input bytes g left r, leaves)
+gives_stream rate statuses.NoMemory bytes g h left out said r leaves = absurd leaves
+gives_stream rate (statuses.TooLong most) bytes g h left out said r leaves = absurd leaves

@@ -1,4 +1,4 @@
-pub mod Head
+pub mod Input
 pub mod Lines
 pub mod Sound
 pub mod Stream

@@ -1,7 +1,7 @@
 -- The report: a line for each frame, and the status line. Each line ends with a line feed.
 use Rattle.std.specs.Prelude.{ℕ, List, ◌++◌, codes, decimal}
-use Rattle.ac_app.specs.declared.status.WavKind.{WavKind}
-use Rattle.ac_app.specs.declared.status.WavKind.TheVariants as kinds
+use Rattle.ac_wav.specs.declared.fault.WavKind.{WavKind}
+use Rattle.ac_wav.specs.declared.fault.WavKind.TheVariants as kinds
 use Rattle.ac_app.specs.declared.status.Status.{Status}
 use Rattle.ac_app.specs.declared.status.Status.TheVariants as statuses
 
@@ -9,8 +9,14 @@ use Rattle.ac_app.specs.declared.status.Status.TheVariants as statuses
 abbrev pub frame_line : ℕ → ℕ → List ℕ
 frame_line i size = codes "frame " ++ decimal i ++ codes " size " ++ decimal size ++ codes " base\n"
 
+-- the word of a kind of refusal; fields and values aren't printed
 abbrev pub kind_word : WavKind → List ℕ
 kind_word kinds.Short = codes "short "
+kind_word kinds.NotRiff = codes "notriff "
+kind_word kinds.NoFmt = codes "nofmt "
+kind_word kinds.NoData = codes "nodata "
+kind_word (kinds.BadFmt field) = codes "badfmt "
+kind_word (kinds.Unsupported field value) = codes "unsupported "
 kind_word kinds.NotYet = codes "notyet "
 
 abbrev pub status_line : Status → List ℕ
@@ -20,6 +26,7 @@ status_line (statuses.BadWav kind place) = codes "status 2 bad wav " ++ kind_wor
 status_line statuses.ReadFault = codes "status 6 read fault\n"
 status_line statuses.WriteFault = codes "status 7 write fault\n"
 status_line statuses.NoMemory = codes "status 9 no memory\n"
+status_line (statuses.TooLong limit) = codes "status 11 too long " ++ decimal limit ++ codes "\n"
 
 abbrev pub code_of : Status → ℕ
 code_of statuses.Ok = 0
@@ -28,3 +35,4 @@ code_of (statuses.BadWav kind place) = 2
 code_of statuses.ReadFault = 6
 code_of statuses.WriteFault = 7
 code_of statuses.NoMemory = 9
+code_of (statuses.TooLong limit) = 11

@@ -5,50 +5,58 @@ use Rattle.ac_words.specs.declared.meaning.Command.{Command}
 use Rattle.ac_words.specs.declared.meaning.Command.TheVariants.{Encode}
 use Rattle.ac_words.specs.declared.meaning.Options.{Options}
 use Rattle.ac_app.specs.declared.status.Status.{Status}
-use Rattle.ac_app.specs.declared.status.Status.TheVariants.{Ok, Usage, BadWav, ReadFault, WriteFault, NoMemory}
-use Rattle.ac_app.specs.Head.{IsPlainWav, data_of, behind, Refuses}
+use Rattle.ac_app.specs.declared.status.Status.TheVariants.{Ok, Usage, BadWav, ReadFault, WriteFault, NoMemory, TooLong}
+use Rattle.ac_wav.specs.declared.head.WavHead.{WavHead}
+use Rattle.ac_wav.specs.Whole.{behind}
+use Rattle.ac_app.specs.Input.{limit, IsInput, Refuses, IsTooLong}
 use Rattle.ac_app.specs.Lines.{status_line}
-use Rattle.ac_app.specs.Sound.{sample_count, frame_count}
+use Rattle.ac_app.specs.Sound.{Sound, sound_of, frames_of}
 use Rattle.ac_app.specs.Stream.{IsStream, frame_lines}
 use Rattle.ac_app.specs.World.{Held, Holds, Frames, OutputFailed, ReportFailed}
 
--- ---- the frames of the data
-
--- the number of frames that stand for the data
-abbrev pub frames_of : List ℕ → ℕ
-frames_of bytes = frame_count (sample_count bytes)
+-- ---- the frames of the sound
 
 -- after k whole frames and their lines a write failed
-abbrev pub Broke : ℕ → List ℕ → Held → Option (List ℕ) → Option (List ℕ) → Type 0
-Broke rate bytes h out said =
-    (k : ℕ) × (k < frames_of bytes) × ((after : Held) × Frames rate bytes k h after
-    × (OutputFailed rate bytes k after out said ⊎ ReportFailed rate bytes k after out said))
+abbrev pub Broke : ℕ → Sound → Held → Option (List ℕ) → Option (List ℕ) → Type 0
+Broke rate s h out said =
+    (k : ℕ) × (k < frames_of s) × ((after : Held) × Frames rate s k h after
+    × (OutputFailed rate s k after out said ⊎ ReportFailed rate s k after out said))
 
--- what writing the frames of the data leaves
-abbrev pub StreamLeaves : ℕ → List ℕ → Status → Held → Option (List ℕ) → Option (List ℕ) → Type 0
-StreamLeaves rate bytes Ok h out said = (after : Held) × Frames rate bytes (frames_of bytes) h after × Holds after out said
-StreamLeaves rate bytes WriteFault h out said = Broke rate bytes h out said
-StreamLeaves rate bytes _ h out said = ⊥
+-- what writing the frames of a sound leaves
+abbrev pub StreamLeaves : ℕ → Sound → Status → Held → Option (List ℕ) → Option (List ℕ) → Type 0
+StreamLeaves rate s Ok h out said = (after : Held) × Frames rate s (frames_of s) h after × Holds after out said
+StreamLeaves rate s WriteFault h out said = Broke rate s h out said
+StreamLeaves rate s _ h out said = ⊥
 
 -- ---- the command encode
 
+-- the source lost the bytes of a mono WAV up to the end of its data, and no others
+abbrev pub Taken : List ℕ → Option (List ℕ) → Type 0
+Taken bytes left = (head : WavHead) × IsInput bytes head × (left ≡ Some (behind head bytes))
+
 -- what encode takes of the input: all of its data but for a refusal, which the bytes ask for
 abbrev pub EncodeTakes : Status → List ℕ → Option (List ℕ) → Type 0
-EncodeTakes Ok bytes left = IsPlainWav bytes × (left ≡ Some (behind bytes))
+EncodeTakes Ok bytes left = Taken bytes left
 EncodeTakes Usage bytes left = ⊥
 EncodeTakes (BadWav kind place) bytes left = Refuses bytes kind place
 EncodeTakes ReadFault bytes left = Unit {0}
-EncodeTakes WriteFault bytes left = IsPlainWav bytes × (left ≡ Some (behind bytes))
+EncodeTakes WriteFault bytes left = Taken bytes left
 EncodeTakes NoMemory bytes left = Unit {0}
+EncodeTakes (TooLong most) bytes left = IsTooLong bytes × (most ≡ limit)
 
--- what encode gives: nothing, or the frames of the data
+-- the frames of the sound of a mono WAV
+abbrev pub StreamGives : ℕ → Status → List ℕ → Held → Option (List ℕ) → Option (List ℕ) → Type 0
+StreamGives rate status bytes h out said = (head : WavHead) × IsInput bytes head × StreamLeaves rate (sound_of head bytes) status h out said
+
+-- what encode gives: nothing, or the frames of the sound
 abbrev pub EncodeGives : ℕ → Status → List ℕ → Held → Option (List ℕ) → Option (List ℕ) → Type 0
-EncodeGives rate Ok bytes h out said = StreamLeaves rate (data_of bytes) Ok h out said
+EncodeGives rate Ok bytes h out said = StreamGives rate Ok bytes h out said
 EncodeGives rate Usage bytes h out said = ⊥
 EncodeGives rate (BadWav kind place) bytes h out said = Holds h out said
 EncodeGives rate ReadFault bytes h out said = Holds h out said
-EncodeGives rate WriteFault bytes h out said = StreamLeaves rate (data_of bytes) WriteFault h out said
+EncodeGives rate WriteFault bytes h out said = StreamGives rate WriteFault bytes h out said
 EncodeGives rate NoMemory bytes h out said = Holds h out said
+EncodeGives rate (TooLong most) bytes h out said = Holds h out said
 
 -- ---- the job
 
@@ -93,13 +101,14 @@ pub record RunGives (ws : List Text) (result : Status) (bytes : List ℕ) (h : H
   pub job : JobGives ws status bytes h out_now (Some before)
   pub line : Tail whole said_now before (status_line status)
 
--- all is done: the frames of the data, their lines, and the status line
+-- all is done: the frames of the sound, their lines, and the status line
 pub record IsDone (ws : List Text) (bytes : List ℕ) (h : Held) (left_now out_now said_now : Option (List ℕ)) : Type 0 where
   pub rate : ℕ
   pub asks : AsksEncode ws rate
-  pub wav : IsPlainWav bytes
-  pub left : left_now ≡ Some (behind bytes)
+  pub head : WavHead
+  pub input : IsInput bytes head
+  pub left : left_now ≡ Some (behind head bytes)
   pub stream : List ℕ
-  pub is_stream : IsStream rate (data_of bytes) (frames_of (data_of bytes)) stream
+  pub is_stream : IsStream rate (sound_of head bytes) (frames_of (sound_of head bytes)) stream
   pub out : out_now ≡ Some (h.out ++ stream)
-  pub said : said_now ≡ Some (h.said ++ frame_lines rate (frames_of (data_of bytes)) ++ status_line Ok)
+  pub said : said_now ≡ Some (h.said ++ frame_lines rate (sound_of head bytes) (frames_of (sound_of head bytes)) ++ status_line Ok)

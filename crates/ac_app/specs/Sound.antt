@@ -1,19 +1,31 @@
--- The sound of the one channel of a plain WAV. Samples have 24 bits: those of 16 bits are multiplied by 256.
-use Rattle.std.specs.Prelude.{ℕ, ◌+◌, ◌-◌, ◌*◌, ◌/◌, ◌==◌, nat_lt, if◌then◌else◌, List, length, drop, ℤ, pos, ◌*ℤ◌}
-use Rattle.byteorder.specs.Endian.{little_number, twos_complement}
+-- The sound of one channel, and the places of it that are transformed.
+use Rattle.std.specs.Prelude.{◌≡◌, ℕ, ◌+◌, ◌-◌, ◌*◌, ◌/◌, ◌==◌, nat_lt, if◌then◌else◌, List, length, slice_index_or, ℤ, pos}
+use Rattle.ac_wav.specs.declared.head.WavHead.{WavHead}
+use Rattle.ac_wav.specs.Samples.{sample_count, sample_at}
 
--- the number of whole samples in the data
-abbrev pub sample_count : List ℕ → ℕ
-sample_count bytes = length bytes / 2
+-- fscod of its sampling rate (A/52 5.4.1.3), its number of samples, and sample j, of 24 bits and 0 behind the last
+pub record Sound : Type 0 where
+  pub fscod : ℕ
+  pub count : ℕ
+  pub sample : ℕ → ℤ
 
--- sample j, and 0 behind the last
-unfoldable pub sample_of : List ℕ → ℕ → ℤ
-sample_of bytes j = if nat_lt j (sample_count bytes) then twos_complement 2 (little_number 2 (drop (2 * j) bytes)) *ℤ pos 256 else pos 0
+-- the first coded channel of a WAV with this head
+abbrev pub sound_of : WavHead → List ℕ → Sound
+sound_of head bytes = record { fscod = head.fscod; count = sample_count head bytes; sample = sample_at head bytes 0 }
+
+-- these are all samples of the sound
+pub record AreSamples (s : Sound) (samples : List ℤ) : Type 0 where
+  pub count : length samples ≡ s.count
+  pub each : (j : ℕ) → slice_index_or samples j (pos 0) ≡ s.sample j
 
 -- place p of the sound that is transformed: 256 zeros, and then the samples
-unfoldable pub sound_at : List ℕ → ℕ → ℤ
-sound_at bytes p = if nat_lt p 256 then pos 0 else sample_of bytes (p - 256)
+unfoldable pub sound_at : Sound → ℕ → ℤ
+sound_at s p = if nat_lt p 256 then pos 0 else s.sample (p - 256)
 
 -- the number of frames for n samples: each has 1,536 places, and the last sample stands in two transforms
 abbrev pub frame_count : ℕ → ℕ
 frame_count n = if n == 0 then 0 else (n + 256 + 1535) / 1536
+
+-- the number of frames of a sound
+abbrev pub frames_of : Sound → ℕ
+frames_of s = frame_count s.count

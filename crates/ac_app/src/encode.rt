@@ -1,45 +1,52 @@
 //! The command encode.
-ghost use Rattle.std.specs.Prelude.{◌≡◌, ◌≢◌, ◌⊎◌, ℕ, ◌≤◌, ◌^◌, ◌-◌, List, Option, Some, vec_len};
+ghost use Rattle.std.specs.Prelude.{◌≡◌, ◌≢◌, ◌⊎◌, ℕ, ◌≤◌, ◌<◌, ◌^◌, List, length, Option, Some};
+ghost use Rattle.ac_base.specs.Sigma.{Within};
 ghost use Rattle.ac_io.specs.Outside.{Rose};
 ghost use Rattle.ac_base.specs.Rates.{IsRate};
+ghost use Rattle.ac_app.specs.Sound.{Sound, AreSamples};
 ghost use Rattle.ac_app.specs.World.{Held, Holds};
 ghost use Rattle.ac_app.specs.Run.{StreamLeaves, EncodeTakes, EncodeGives};
 ghost use Rattle.ac_app.specs.declared.status.Status.TheVariants.{Usage, ReadFault, WriteFault, NoMemory};
 
-use crate::frames::{Stop, frames};
+use crate::frames::{Pace, Stop, frames};
+use crate::input::{Fault, Gathered, LIMIT, read_input};
 use crate::sound::frames_for;
 use crate::status::Status;
-use crate::wav::{WavFault, read_data};
-use ac_io::{Sink, Source, SureSource};
+use ac_io::{Sink, Source};
+use ac_wav::WavFault;
 use std::alloc::Global;
 
-/// Writes and reports the frames of the data.
+/// Writes and reports the frames of the samples.
 fn write_frames<O: Sink, N: Sink>(
     rate: u16,
-    samples: Vec<u8>,
+    gathered: &Gathered,
     output: &mut O,
     report: &mut N,
 ) -> Status
     requires rate { IsRate rate }
-    requires size { vec_len samples ≤ 2 ^ 26 - 44 }
-    ensures leaves { (h : Held) → Holds h (O.held output.old) (N.held report.old)
-        → StreamLeaves rate samples.items result h (O.held output.new) (N.held report.new) }
+    requires sampling { gathered.now.fscod ≤ 2 }
+    requires samples { Within (2 ^ 23) (length gathered.now.samples.items) gathered.now.samples.items }
+    requires count { length gathered.now.samples.items < 2 ^ 27 }
+    ensures leaves { (s : Sound) (h : Held) → s.fscod ≡ gathered.now.fscod → AreSamples s gathered.now.samples.items → Holds h (O.held output.old) (N.held report.old)
+        → StreamLeaves rate s result h (O.held output.new) (N.held report.new) }
     ensures ends { (result ≡ Status.Ok) ⊎ (result ≡ Status.WriteFault) }
     ensures write { result ≡ Status.WriteFault → Rose (O.faults output.old) (O.faults output.new) ⊎ Rose (N.faults report.old) (N.faults report.new) }
     ensures output_count { O.faults output.old ≤ O.faults output.new }
     ensures report_count { N.faults report.old ≤ N.faults report.new }
 {
-    let count = frames_for(samples.len() / 2);
-    let mut source = SureSource::new(samples);
-    match frames(rate, count, &mut source, output, report) {
+    let pace = Pace {
+        rate,
+        fscod: gathered.fscod,
+    };
+    let count = frames_for(gathered.samples.len());
+    match frames(pace, count, gathered.samples.as_slice(), output, report) {
         Ok(()) => Status::Ok,
-        Err(Stop::Read) => Status::ReadFault,
         Err(Stop::Output) => Status::WriteFault,
         Err(Stop::Report) => Status::WriteFault,
     }
 }
 
-/// Reads a plain WAV whole, and then writes and reports its frames.
+/// Reads a mono WAV whole, and then writes and reports its frames.
 pub fn encode<S: Source, O: Sink, N: Sink>(
     alloc: Global,
     rate: u16,
@@ -58,10 +65,11 @@ pub fn encode<S: Source, O: Sink, N: Sink>(
     ensures output_count { O.faults output.old ≤ O.faults output.new }
     ensures report_count { N.faults report.old ≤ N.faults report.new }
 {
-    match read_data(alloc, input) {
-        Ok(samples) => write_frames(rate, samples, output, report),
-        Err(WavFault::Bad(kind, place)) => Status::BadWav(kind, place),
-        Err(WavFault::ReadFault) => Status::ReadFault,
-        Err(WavFault::NoMemory) => Status::NoMemory,
+    match read_input(alloc, input) {
+        Ok(gathered) => write_frames(rate, &gathered, output, report),
+        Err(Fault::Wav(WavFault::Bad(kind, place))) => Status::BadWav(kind, place),
+        Err(Fault::Wav(WavFault::ReadFault)) => Status::ReadFault,
+        Err(Fault::Wav(WavFault::TooLong)) => Status::TooLong { limit: LIMIT },
+        Err(Fault::NoMemory) => Status::NoMemory,
     }
 }

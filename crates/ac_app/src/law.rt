@@ -1,38 +1,44 @@
-//! What holds of every stream, of every list of bytes that is to be a WAV, and of every run that does all.
-ghost use Rattle.std.specs.Prelude.{◌↔◌, ◌≡◌, ◌⊎◌, ℕ, ◌+◌, ◌*◌, ◌<◌, List, length, take, drop, ℤ, Option, Some};
+//! What holds of every stream, of every list of bytes that is to be an input, and of every run that does all.
+ghost use Rattle.std.specs.Prelude.{◌↔◌, ◌≡◌, ◌⊎◌, ℕ, ◌+◌, ◌*◌, ◌<◌, ◌≤◌, List, length, take, drop, Option, Some};
 ghost use Rattle.ac_base.specs.Rates.{IsRate};
 ghost use Rattle.ac_enc.specs.Frame.{IsFrame};
 ghost use Rattle.ac_frame.specs.Plain.{AreBytes};
+ghost use Rattle.ac_wav.specs.declared.fault.WavKind.{WavKind};
+ghost use Rattle.ac_wav.specs.declared.head.WavHead.{WavHead};
 ghost use Rattle.ac_words.specs.Grammar.{Text};
-ghost use Rattle.ac_app.specs.declared.status.WavKind.{WavKind};
-ghost use Rattle.ac_app.specs.Head.{IsPlainWav, Refuses, data_of};
-ghost use Rattle.ac_app.specs.Run.{frames_of, IsDone};
-ghost use Rattle.ac_app.specs.Sound.{sample_of};
-ghost use Rattle.ac_app.specs.Stream.{places, IsStream, frame_size};
+ghost use Rattle.ac_app.specs.Input.{IsInput, Refuses, IsTooLong};
+ghost use Rattle.ac_app.specs.Run.{IsDone};
+ghost use Rattle.ac_app.specs.Sound.{Sound, sound_of, frames_of};
+ghost use Rattle.ac_app.specs.Stream.{places, IsStream, frame_size, stream_size};
 ghost use Rattle.ac_app.specs.World.{Held};
 
-/// What is true of the first frames of the data at a bit rate: they are one list of bytes, of 4 bytes for each kbit/s
-/// and frame, as the report states; each frame stands at its own place; and the samples alone tell them.
+/// What is true of the first frames of a sound at a bit rate: they are one list of bytes, of the bytes that the report
+/// states; each frame stands at its own place; and the samples alone tell them.
 pub fn stream_law()
-    ensures one { (rate k : ℕ) (bytes s t : List ℕ) → IsRate rate → AreBytes s → AreBytes t → IsStream rate bytes k s → IsStream rate bytes k t → s ≡ t }
-    ensures size { (rate k : ℕ) (bytes s : List ℕ) → IsRate rate → IsStream rate bytes k s → length s ≡ k * (4 * rate) }
-    ensures stated { (rate i : ℕ) (x : ℕ → ℤ) (frame : List ℕ) → IsRate rate → IsFrame rate x frame → length frame ≡ frame_size rate i }
-    ensures front { (rate k more : ℕ) (bytes s : List ℕ) → IsRate rate → IsStream rate bytes (k + more) s → IsStream rate bytes k (take (k * (4 * rate)) s) }
-    ensures frame { (rate k i : ℕ) (bytes s : List ℕ) → IsRate rate → IsStream rate bytes k s → i < k → IsFrame rate (places bytes i) (take (4 * rate) (drop (i * (4 * rate)) s)) }
-    ensures told { (rate k : ℕ) (a b s : List ℕ) → ((j : ℕ) → sample_of a j ≡ sample_of b j) → IsStream rate a k s ↔ IsStream rate b k s }
+    ensures one { (rate k : ℕ) (x : Sound) (s t : List ℕ) → IsRate rate → x.fscod ≤ 2 → AreBytes s → AreBytes t → IsStream rate x k s → IsStream rate x k t → s ≡ t }
+    ensures size { (rate k : ℕ) (x : Sound) (s : List ℕ) → IsRate rate → x.fscod ≤ 2 → IsStream rate x k s → length s ≡ stream_size rate x k }
+    ensures front { (rate k more : ℕ) (x : Sound) (s : List ℕ) → IsRate rate → x.fscod ≤ 2 → IsStream rate x (k + more) s → IsStream rate x k (take (stream_size rate x k) s) }
+    ensures frame { (rate k i : ℕ) (x : Sound) (s : List ℕ) → IsRate rate → x.fscod ≤ 2 → IsStream rate x k s → i < k
+        → IsFrame rate x.fscod i (places x i) (take (frame_size rate x i) (drop (stream_size rate x i) s)) }
+    ensures told { (rate k : ℕ) (x y : Sound) (s : List ℕ) → x.fscod ≡ y.fscod → ((j : ℕ) → x.sample j ≡ y.sample j) → IsStream rate x k s ↔ IsStream rate y k s }
 {}
 
-/// A list of bytes is a plain WAV or refused, never both, and is refused for one reason at one place.
-pub fn wav_law()
-    ensures each { (bytes : List ℕ) → IsPlainWav bytes ⊎ ((kind : WavKind) × (place : ℕ) × Refuses bytes kind place) }
-    ensures never_both { (bytes : List ℕ) (kind : WavKind) (place : ℕ) → IsPlainWav bytes → Refuses bytes kind place → ⊥ }
-    ensures one { (bytes : List ℕ) (kind other : WavKind) (place there : ℕ) → Refuses bytes kind place → Refuses bytes other there → (kind ≡ other) × (place ≡ there) }
+/// A list of bytes is a mono WAV within the limit, refused, or goes on past the limit where it is needed: one of the three,
+/// with one head, and for one reason at one place.
+pub fn input_law()
+    ensures each { (bytes : List ℕ) → ((head : WavHead) × IsInput bytes head) ⊎ (((kind : WavKind) × (place : ℕ) × Refuses bytes kind place) ⊎ IsTooLong bytes) }
+    ensures never_both { (bytes : List ℕ) (head : WavHead) (kind : WavKind) (place : ℕ) → IsInput bytes head → Refuses bytes kind place → ⊥ }
+    ensures never_longer { (bytes : List ℕ) (head : WavHead) → IsInput bytes head → IsTooLong bytes → ⊥ }
+    ensures never_refused { (bytes : List ℕ) (kind : WavKind) (place : ℕ) → Refuses bytes kind place → IsTooLong bytes → ⊥ }
+    ensures one_head { (bytes : List ℕ) (head other : WavHead) → IsInput bytes head → IsInput bytes other → head ≡ other }
+    ensures one_refusal { (bytes : List ℕ) (kind other : WavKind) (place there : ℕ) → Refuses bytes kind place → Refuses bytes other there → (kind ≡ other) × (place ≡ there) }
 {}
 
 /// A run that did all leaves one thing: the words, the input and what the sinks held tell what is left of the input,
-/// the output and the report. The output gains 4 bytes for each kbit/s and frame.
+/// the output and the report. The output gains the bytes that the report states.
 pub fn run_law()
     ensures one { (ws : List Text) (bytes : List ℕ) (h : Held) (left now : Option (List ℕ)) (out said again lines : List ℕ) → AreBytes out → AreBytes again
         → IsDone ws bytes h left (Some out) (Some said) → IsDone ws bytes h now (Some again) (Some lines) → (left ≡ now) × (out ≡ again) × (said ≡ lines) }
-    ensures size { (ws : List Text) (bytes : List ℕ) (h : Held) (left said : Option (List ℕ)) (out : List ℕ) (p : IsDone ws bytes h left (Some out) said) → length out ≡ length h.out + frames_of (data_of bytes) * (4 * p.rate) }
+    ensures size { (ws : List Text) (bytes : List ℕ) (h : Held) (left said : Option (List ℕ)) (out : List ℕ) (p : IsDone ws bytes h left (Some out) said)
+        → length out ≡ length h.out + stream_size p.rate (sound_of p.head bytes) (frames_of (sound_of p.head bytes)) }
 {}

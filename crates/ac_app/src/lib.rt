@@ -3,20 +3,20 @@
 
 mod encode;
 mod frames;
-mod head;
+mod input;
 mod law;
 mod lines;
 mod sound;
 mod status;
 mod top;
-mod wav;
 
 pub use ac_io::{
     Failed, MemSink, MemSource, NullSink, Sink, Source, StdSink, StdSource, SureSource,
 };
 pub use ac_words::{Command, Couple, Names, Options, WordsFault, command, names};
-pub use law::{run_law, stream_law, wav_law};
-pub use status::{Status, WavKind};
+pub use ac_wav::{Field, WavKind};
+pub use law::{input_law, run_law, stream_law};
+pub use status::Status;
 pub use top::run;
 
 #[cfg(test)]

@@ -3,7 +3,8 @@ ghost use Rattle.std.specs.Prelude.{◌≡◌, ℕ, ◌+◌, ◌≤◌, ◌<◌,
 ghost use Rattle.arrayvec.specs.ArrayString.{array_string_len};
 ghost use Rattle.ac_app.specs.Lines.{frame_line, status_line, kind_word};
 
-use crate::status::{Status, WavKind};
+use crate::status::Status;
+use ac_wav::WavKind;
 use arrayvec::ArrayString;
 use itoa::Buffer;
 
@@ -37,6 +38,11 @@ fn word_of(kind: WavKind) -> &'static str
 {
     match kind {
         WavKind::Short => "short ",
+        WavKind::NotRiff => "notriff ",
+        WavKind::NoFmt => "nofmt ",
+        WavKind::NoData => "nodata ",
+        WavKind::BadFmt(_) => "badfmt ",
+        WavKind::Unsupported(_, _) => "unsupported ",
         WavKind::NotYet => "notyet ",
     }
 }
@@ -48,6 +54,16 @@ fn refusal(kind: WavKind, place: u64) -> Line
     line.push_str("status 2 bad wav ");
     line.push_str(word_of(kind));
     push_number(&mut line, place);
+    line.push_str("\n");
+    line
+}
+
+fn too_long(limit: u64) -> Line
+    ensures { result.bytes ≡ status_line (Status.TooLong limit) }
+{
+    let mut line = Line::new();
+    line.push_str("status 11 too long ");
+    push_number(&mut line, limit);
     line.push_str("\n");
     line
 }
@@ -72,5 +88,6 @@ pub fn status(status: Status) -> Line
         Status::ReadFault => fixed("status 6 read fault\n"),
         Status::WriteFault => fixed("status 7 write fault\n"),
         Status::NoMemory => fixed("status 9 no memory\n"),
+        Status::TooLong { limit } => too_long(limit),
     }
 }

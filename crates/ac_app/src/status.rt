@@ -2,14 +2,7 @@
 ghost use Rattle.std.specs.Prelude.{◌≡◌};
 ghost use Rattle.ac_app.specs.Lines.{code_of};
 
-/// Why a WAV is refused.
-#[derive(Clone, Copy, Debug, PartialEq, Eq)]
-pub enum WavKind {
-    /// The input ends inside its head or inside its data; the place is its number of bytes.
-    Short,
-    /// The head has another form than the one that is read so far; the place is 0.
-    NotYet,
-}
+use ac_wav::WavKind;
 
 /// How a command ended.
 #[derive(Clone, Copy, Debug, PartialEq, Eq)]
@@ -26,6 +19,8 @@ pub enum Status {
     WriteFault,
     /// Memory was wanting.
     NoMemory,
+    /// The input is needed past its first `limit` bytes, and goes on there.
+    TooLong { limit: u64 },
 }
 
 impl Status {
@@ -40,6 +35,7 @@ impl Status {
             Status::ReadFault => 6,
             Status::WriteFault => 7,
             Status::NoMemory => 9,
+            Status::TooLong { .. } => 11,
         }
     }
 }

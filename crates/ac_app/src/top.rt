@@ -2,12 +2,13 @@
 ghost use Rattle.std.specs.Prelude.{◌≡◌, ◌≢◌, ◌⊎◌, ℕ, ◌≤◌, Bool, false, List, ◌++◌, Option, Some, map, string_bytes};
 ghost use Rattle.ac_io.specs.Outside.{Rose};
 ghost use Rattle.ac_words.specs.Grammar.{InGrammar};
-ghost use Rattle.ac_app.specs.Head.{IsPlainWav, Refuses};
+ghost use Rattle.ac_app.specs.Input.{limit, IsInput, Refuses, IsTooLong};
 ghost use Rattle.ac_app.specs.Lines.{status_line};
 ghost use Rattle.ac_app.specs.World.{Held, Holds};
 ghost use Rattle.ac_app.specs.Run.{rate_asked, JobTakes, JobGives, Tail, answer_of, RunGives, IsDone};
-ghost use Rattle.ac_app.specs.declared.status.WavKind.{WavKind};
-ghost use Rattle.ac_app.specs.declared.status.Status.TheVariants.{Usage, BadWav, ReadFault, WriteFault, NoMemory};
+ghost use Rattle.ac_wav.specs.declared.fault.WavKind.{WavKind};
+ghost use Rattle.ac_wav.specs.declared.head.WavHead.{WavHead};
+ghost use Rattle.ac_app.specs.declared.status.Status.TheVariants.{Usage, BadWav, ReadFault, WriteFault, NoMemory, TooLong};
 
 use crate::encode::encode;
 use crate::lines;
@@ -100,8 +101,11 @@ pub fn run<S: Source, O: Sink, N: Sink>(
     // A refusal of the bytes comes where they ask for it, unless the input or memory failed first.
     ensures refused { (bytes : List ℕ) (kind : WavKind) (place : ℕ) → S.left input.old ≡ Some bytes → InGrammar (map string_bytes words.now) → Refuses bytes kind place
         → result ≢ Status.ReadFault → result ≢ Status.NoMemory → result ≡ Status.BadWav kind place }
-    // A plain WAV is encoded, unless something failed.
-    ensures complete { (bytes : List ℕ) → S.left input.old ≡ Some bytes → InGrammar (map string_bytes words.now) → IsPlainWav bytes
+    // The byte behind the limit is refused where it is needed and there.
+    ensures too_long { (bytes : List ℕ) → S.left input.old ≡ Some bytes → InGrammar (map string_bytes words.now) → IsTooLong bytes
+        → result ≢ Status.ReadFault → result ≢ Status.NoMemory → result ≡ Status.TooLong limit }
+    // A mono WAV within the limit is encoded, unless something failed.
+    ensures complete { (bytes : List ℕ) (head : WavHead) → S.left input.old ≡ Some bytes → InGrammar (map string_bytes words.now) → IsInput bytes head
         → result ≢ Status.ReadFault → result ≢ Status.WriteFault → result ≢ Status.NoMemory → result ≡ Status.Ok }
     // Faults have a cause.
     ensures read { result ≡ Status.ReadFault → Rose (S.faults input.old) (S.faults input.new) }

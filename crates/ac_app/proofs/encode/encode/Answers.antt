@@ -1,6 +1,13 @@
-use Rattle.ac_app.proofs.Streams.{gives_stream}
+use Rattle.ac_app.proofs.Streams.{takes_stream, gives_stream}
+use Rattle.ac_app.specs.Sound.{sound_of}
+use Rattle.std.proofs.Common.{sym}
 use Rattle.ac_app.proofs.encode.encode.Goals as goal
+
+pub returns-in-Ok-clause-takes : goal.returns-in-Ok-clause-takes
+returns-in-Ok-clause-takes g c = λ bytes left.
+    takes_stream c.write_frames.result bytes c.in-Ok.gathered _ c.write_frames.ensures.ends (c.in-Ok.ensures.told bytes left)
 
 pub returns-in-Ok-clause-gives : goal.returns-in-Ok-clause-gives
 returns-in-Ok-clause-gives g c = λ bytes h left holds.
-    gives_stream c.args.rate c.write_frames.result bytes _ h _ _ (c.in-Ok.ensures.told bytes left).taken_all (c.write_frames.ensures.leaves h holds)
+    let read = c.in-Ok.ensures.told bytes left in
+    gives_stream c.args.rate c.write_frames.result bytes c.in-Ok.gathered h _ _ _ read (c.write_frames.ensures.leaves (sound_of read.head bytes) h (sym read.fscod) read.all.are holds)

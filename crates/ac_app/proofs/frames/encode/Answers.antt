@@ -1,6 +1,6 @@
 use Rattle.std.proofs.Common.{◌∙◌, ◌≤◌, arith, length}
 use Rattle.std.proofs.lemmas.List.{length-take-le}
-use Rattle.ac_app.proofs.Places.{frame_at, last_next, last_bound}
+use Rattle.ac_app.proofs.Places.{frame_told, last_next, last_bound}
 use Rattle.ac_app.proofs.frames.encode.Goals as goal
 
 pub returns-clause-long : goal.returns-clause-long
@@ -9,9 +9,9 @@ returns-clause-long c =
     length-take-le c.encode_frame-size.result c.encode_frame-size.new.out within ∙ c.encode_frame-size.ensures.size
 
 pub returns-clause-frame : goal.returns-clause-frame
-returns-clause-frame c = λ bytes i before lists. (
-  frame_at c.args.rate bytes i c.args.last.now c.args.pcm.now _ c.told-last before lists c.encode_frame-size.ensures.frame,
-  last_next bytes i c.args.pcm.now c.keep_last.new.last c.keep_last.ensures lists,
+returns-clause-frame c = λ s same before lists. (
+  frame_told c.args.pace.rate c.args.pace.fscod s c.args.i c.args.last.now c.args.pcm.now _ same c.told-last before lists c.encode_frame-size.ensures.frame,
+  last_next s c.args.i c.args.pcm.now c.keep_last.new.last c.keep_last.ensures lists,
 )
 
 pub returns-clause-bound : goal.returns-clause-bound

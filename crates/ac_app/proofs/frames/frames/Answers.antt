@@ -6,34 +6,32 @@ use Rattle.ac_app.proofs.frames.frames.Goals as goal
 
 pub loop-i-init : goal.loop-i-init
 loop-i-init g c = record {
-  leaves = λ bytes h left holds. (left, silent bytes c.silence-last.result c.silence-last.ensures, (h, no_frames c.args.rate bytes h, holds));
+  leaves = λ s h same are holds. (silent s c.silence-last.result c.silence-last.ensures, (h, no_frames c.args.pace.rate s h, holds));
   bound = silent_bound c.silence-last.result c.silence-last.ensures;
-  input = omega arith;
   output = omega arith;
   report = omega arith;
 }
 
 pub loop-i-preserved : goal.loop-i-preserved
 loop-i-preserved g c = record {
-  leaves = λ bytes h left holds.
-      let before = c.loop-i.invariant.leaves bytes h left holds in
-      let here = c.in_ok-frame.ensures.leaves bytes before.2.0 before.1 before.0 before.2.2 in
-      (here.2, here.1, one_more c.args.rate bytes c.loop-i.i h before.2.0 _ _ before.2.1 here.0);
+  leaves = λ s h same are holds.
+      let before = c.loop-i.invariant.leaves s h same are holds in
+      let here = c.in_ok-frame.ensures.leaves s before.1.0 same are before.0 before.1.2 in
+      (here.1, one_more c.args.pace.rate s c.loop-i.i h before.1.0 _ _ before.1.1 here.0);
   bound = c.in_ok-frame.ensures.bound;
-  input = omega (arith, c.in_ok-frame.ensures.input_count, c.loop-i.invariant.input);
   output = omega (arith, c.in_ok-frame.ensures.output_count, c.loop-i.invariant.output);
   report = omega (arith, c.in_ok-frame.ensures.report_count, c.loop-i.invariant.report);
 }
 
 pub returns-in_err-frame-clause-leaves : goal.returns-in_err-frame-clause-leaves
-returns-in_err-frame-clause-leaves g c = λ bytes h left holds.
-    let before = c.loop-i.invariant.leaves bytes h left holds in
-    let here = c.in_err-frame.ensures.leaves bytes before.2.0 before.1 before.0 before.2.2 in
+returns-in_err-frame-clause-leaves g c = λ s h same are holds.
+    let before = c.loop-i.invariant.leaves s h same are holds in
+    let here = c.in_err-frame.ensures.leaves s before.1.0 same are before.0 before.1.2 in
     let p = err_from_is_err_and c.from_residual.result c.from_residual.ensures.1 in
-    rw (p.1, p.2) (stopped c.args.rate bytes c.args.count c.loop-i.i _ h before.2.0 _ _ c.loop-i-test.true before.2.1 here)
+    rw (p.1, p.2) (stopped c.args.pace.rate s c.args.count c.loop-i.i _ h before.1.0 _ _ c.loop-i-test.true before.1.1 here)
 
 pub returns-clause-leaves : goal.returns-clause-leaves
-returns-clause-leaves g c = λ bytes h left holds.
-    let before = c.loop-i.invariant.leaves bytes h left holds in
+returns-clause-leaves g c = λ s h same are holds.
+    let before = c.loop-i.invariant.leaves s h same are holds in
     let all : c.loop-i.i ≡ c.args.count = omega arith in
-    (before.2.0, subst (λ (k : ℕ). Frames c.args.rate bytes k h before.2.0) all before.2.1, before.2.2)
+    (before.1.0, subst (λ (k : ℕ). Frames c.args.pace.rate s k h before.1.0) all before.1.1, before.1.2)

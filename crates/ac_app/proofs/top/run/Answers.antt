@@ -1,4 +1,4 @@
-use Rattle.ac_app.proofs.Ends.{run_takes, run_gives, is_done, refused_is, complete_is}
+use Rattle.ac_app.proofs.Ends.{run_takes, run_gives, is_done, refused_is, too_long_is, complete_is}
 use Rattle.ac_app.proofs.top.run.Goals as goal
 
 pub returns-clause-takes : goal.returns-clause-takes
@@ -17,6 +17,10 @@ pub returns-clause-refused : goal.returns-clause-refused
 returns-clause-refused g c = λ bytes kind place told.
     refused_is _ c.answer.result bytes _ kind place (returns-clause-takes g c bytes told)
 
+pub returns-clause-too_long : goal.returns-clause-too_long
+returns-clause-too_long g c = λ bytes told.
+    too_long_is _ c.answer.result bytes _ (returns-clause-takes g c bytes told)
+
 pub returns-clause-complete : goal.returns-clause-complete
-returns-clause-complete g c = λ bytes told.
-    complete_is _ c.answer.result bytes _ (returns-clause-takes g c bytes told)
+returns-clause-complete g c = λ bytes head told.
+    complete_is _ c.answer.result bytes _ head (returns-clause-takes g c bytes told)
