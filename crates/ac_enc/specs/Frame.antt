@@ -1,8 +1,9 @@
--- The frame of a mono sound at 48 kHz: offset 0, exponents D45 in block 0 and reuse after it.
+-- The frame of a mono sound: offset 0, exponents D45 in block 0 and reuse after it.
 -- The sound of a frame is the 256 places before it, and its own 1,536.
-use Rattle.std.specs.Prelude.{◌≡◌, ℕ, ◌+◌, ◌-◌, ◌*◌, ◌<◌, min, None, List, [], ◌++◌, slice_index, slice_index_or, ℤ, pos}
+use Rattle.std.specs.Prelude.{◌≡◌, ℕ, zero, suc, nat_eq, if◌then◌else◌, ◌+◌, ◌-◌, ◌*◌, ◌<◌, min, None, List, [], ◌++◌, slice_index, slice_index_or, ℤ, pos}
 use Rattle.ac_base.specs.Rates.{HasCode}
 use Rattle.ac_base.specs.Shape.{full_span}
+use Rattle.ac_base.specs.Sizes.{frame_words_of, table_words}
 use Rattle.ac_base.specs.Window.{window_of}
 use Rattle.ac_base.specs.declared.spans.Span.{Span}
 use Rattle.ac_mdct.specs.Forward.{rounded, forward_sum, coefficient}
@@ -40,13 +41,22 @@ pub record IsSpelled (rate : ℕ) (x : ℕ → ℤ) (spelled : Spelling) : Type 
   pub is_exps : IsByFormula 3 (mono_span rate) raw 0 6 exps
   pub is_spelled : spelled ≡ spelled_of 3 (mono_span rate) exps
 
--- these bytes are the frame of the sound x at a bit rate
-pub record IsFrame (rate : ℕ) (x : ℕ → ℤ) (frame : List ℕ) : Type 0 where
+-- frmsizecod of frame i, by the code of its rate: an odd one says one word more than the table's (A/52 5.4.1.4, Table 5.18)
+abbrev pub size_code : ℕ → ℕ → ℕ → ℕ → ℕ
+size_code rate fscod i code = if nat_eq (frame_words_of rate fscod i) (table_words rate fscod) then 2 * code else 2 * code + 1
+
+-- the words of the first n frames
+unfoldable pub words_so_far : ℕ → ℕ → ℕ → ℕ
+words_so_far rate fscod zero = 0
+words_so_far rate fscod (suc n) = words_so_far rate fscod n + frame_words_of rate fscod n
+
+-- these bytes are frame i of a stream: that of the sound x, at a bit rate and a sampling code
+pub record IsFrame (rate fscod i : ℕ) (x : ℕ → ℤ) (frame : List ℕ) : Type 0 where
   pub code : ℕ
   pub has_code : HasCode rate code
   pub spelled : Spelling
   pub is_spelled : IsSpelled rate x spelled
-  pub plain : IsPlain 0 (2 * code) (2 * rate) (bandwidth rate) spelled.first spelled.groups frame
+  pub plain : IsPlain fscod (size_code rate fscod i code) (frame_words_of rate fscod i) (bandwidth rate) spelled.first spelled.groups frame
 
 -- the places of a frame, behind the last 256 of the frame before
 abbrev pub joined : List ℤ → List ℤ → ℕ → ℤ

@@ -3,11 +3,12 @@ ghost use Rattle.std.specs.Prelude.{◌≡◌, ℕ, ◌*◌, ◌+◌, ◌-◌, �
 ghost use Rattle.ac_base.specs.Rates.{IsRate, HasCode};
 ghost use Rattle.ac_base.specs.Shape.{IsSpan};
 ghost use Rattle.ac_base.specs.Sigma.{Within};
+ghost use Rattle.ac_base.specs.Sizes.{frame_words_of};
 ghost use Rattle.ac_expo.specs.Steps.{groups_of};
-ghost use Rattle.ac_enc.specs.Frame.{bandwidth, mono_span, IsSpelled, IsFrame, joined};
+ghost use Rattle.ac_enc.specs.Frame.{bandwidth, mono_span, size_code, IsSpelled, IsFrame, joined};
 
 use crate::raw::raw_blocks;
-use ac_base::{Lead, Span, rate_code};
+use ac_base::{Lead, Span, frame_words, rate_code};
 use ac_expo::{Run, Spelled, greatest, group};
 use ac_frame::{Size, plain};
 
@@ -55,38 +56,68 @@ fn spelled(rate: u16, last: &[i32; 256], pcm: &[i32; 1536]) -> Spelled
     group(WHOLE.kind, &span, &exps)
 }
 
-/// The fields of the frame's head that its rate gives.
-fn size_of(rate: u16) -> Size
-    requires { IsRate rate }
-    ensures fscod { result.fscod ≡ 0 }
-    ensures code { (code : ℕ) × HasCode rate code × (result.frmsizecod ≡ 2 * code) }
-    ensures words { result.words ≡ 2 * rate }
+/// The code frmsizecod of a frame's size: even for the size of frame 0, which is the table's, and else
+/// odd, for one word more (A/52 5.4.1.4, Table 5.18).
+fn frame_size_code(rate: u16, fscod: u8, frame: u64) -> u8
+    requires rate { IsRate rate }
+    requires sampling { fscod ≤ 2 }
+    requires frame { frame < 2 ^ 32 }
+    ensures { (code : ℕ) × HasCode rate code × (result ≡ size_code rate fscod frame code) }
+{
+    let even = frame_words(rate, fscod, frame) == frame_words(rate, fscod, 0);
+    2 * rate_code(rate) + u8::from(!even)
+}
+
+/// The fields of the frame's head that its rate, its sampling code and its number give.
+fn size_of(rate: u16, fscod: u8, frame: u64) -> Size
+    requires rate { IsRate rate }
+    requires sampling { fscod ≤ 2 }
+    requires frame { frame < 2 ^ 32 }
+    ensures fscod { result.fscod ≡ fscod }
+    ensures code { (code : ℕ) × HasCode rate code × (result.frmsizecod ≡ size_code rate fscod frame code) }
+    ensures words { result.words ≡ frame_words_of rate fscod frame }
     ensures bw { result.bw ≡ bandwidth rate }
 {
     Size {
-        fscod: 0,
-        frmsizecod: 2 * rate_code(rate),
-        words: 2 * rate,
+        fscod,
+        frmsizecod: frame_size_code(rate, fscod, frame),
+        words: frame_words(rate, fscod, frame),
         bw: bandwidth_code(rate),
     }
 }
 
-/// Writes the frame of 1,536 samples of one channel at 48 kHz, behind the last 256 of the frame before, to the
-/// front of `out`, and answers its number of bytes, 4 times the rate in kbit/s.
+/// Writes frame number `frame` of a stream, of 1,536 samples of one channel behind the last 256 of the frame
+/// before, to the front of `out`, and answers its number of bytes.
 ///
-/// Samples have 24 bits; the 256 before the first frame are 0. The frame has SNR offset 0 and the exponents
-/// D45 in block 0 and reuse after it. What `out` holds behind the frame stays.
-pub fn encode_frame(rate: u16, last: &[i32; 256], pcm: &[i32; 1536], out: &mut [u8; 3840]) -> usize
+/// `rate` is in kbit/s; `fscod` is 0 at 48 kHz, 1 at 44.1 kHz and 2 at 32 kHz (A/52 5.4.1.3). At 44.1 kHz the
+/// frames' sizes vary by a word, so that the frames so far keep to the rate (A/52 5.4.1.4). Samples have
+/// 24 bits; the 256 before the first frame are 0. The frame has SNR offset 0 and the exponents D45 in block 0
+/// and reuse after it. What `out` holds behind the frame stays.
+pub fn encode_frame(
+    rate: u16,
+    fscod: u8,
+    frame: u64,
+    last: &[i32; 256],
+    pcm: &[i32; 1536],
+    out: &mut [u8; 3840],
+) -> usize
     requires rate { IsRate rate }
+    requires sampling { fscod ≤ 2 }
+    requires frame { frame < 2 ^ 32 }
     requires last { Within (2 ^ 23) 256 last.now }
     requires pcm { Within (2 ^ 23) 1536 pcm.now }
-    ensures size { result ≡ 4 * rate }
-    ensures most { result ≤ 2560 }
-    ensures frame { IsFrame rate (joined last.now pcm.now) (take result out.new) }
+    ensures size { result ≡ 2 * frame_words_of rate fscod frame }
+    ensures most { result ≤ 3840 }
+    ensures frame { IsFrame rate fscod frame (joined last.now pcm.now) (take result out.new) }
     ensures rest { drop result out.new ≡ drop result out.old }
 {
     let spelled = spelled(rate, last, pcm);
-    plain(&size_of(rate), spelled.first(), spelled.groups(), out)
+    plain(
+        &size_of(rate, fscod, frame),
+        spelled.first(),
+        spelled.groups(),
+        out,
+    )
 }
 
 #[cfg(test)]

@@ -9,7 +9,7 @@ fn heads_of_silence(rt: HostRuntime) {
     for (rate, size, frmsizecod) in [(32u16, 128usize, 0u8), (192, 768, 20), (640, 2560, 36)] {
         assert!(rt; is_rate(rate));
         let mut out = [0xff; 3840];
-        let n = encode_frame(rate, &[0; 256], &[0; 1536], &mut out);
+        let n = encode_frame(rate, 0, 0, &[0; 256], &[0; 1536], &mut out);
         assert_eq!(rt; n, size);
         assert_eq!(rt; [out[0], out[1]], [0x0b, 0x77], "at {rate}");
         assert_eq!(rt;
@@ -19,4 +19,32 @@ fn heads_of_silence(rt: HostRuntime) {
         );
         assert!(rt; out[n..].iter().all(|byte| *byte == 0xff), "at {rate}");
     }
+}
+
+// The head of a frame of silence: its bytes, and the byte of fscod and frmsizecod (A/52 5.4.1.3, 5.4.1.4).
+fn check_size(rt: HostRuntime, rate: u16, fscod: u8, frame: u64, words: usize, code: u8)
+    requires rate { IsRate rate }
+    requires sampling { fscod ≤ 2 }
+    requires frame { frame < 2 ^ 32 }
+{
+    let mut out = [0xff; 3840];
+    let n = encode_frame(rate, fscod, frame, &[0; 256], &[0; 1536], &mut out);
+    assert_eq!(rt; n, 2 * words, "frame {frame}");
+    assert_eq!(rt; out[4], 64 * fscod + code, "frame {frame}");
+}
+
+// A/52 Table 5.18: at 192 kbit/s 417 and 418 words with the codes 20 and 21 at 44.1 kHz,
+// at 32 kbit/s 96 words with the code 0 at 32 kHz. 147 frames at 44.1 kHz take 320 words for each kbit/s.
+#[test]
+fn alternating_frame_sizes(rt: HostRuntime) {
+    assert!(rt; is_rate(192));
+    check_size(rt, 192, 1, 0, 417, 20);
+    check_size(rt, 192, 1, 1, 418, 21);
+    assert!(rt; is_rate(32));
+    check_size(rt, 32, 2, 0, 96, 0);
+    check_size(rt, 32, 2, 1, 96, 0);
+    let total: u32 = (0..147)
+        .map(|frame| u32::from(frame_words(192, 1, frame)))
+        .sum();
+    assert_eq!(rt; total, 61_440);
 }
