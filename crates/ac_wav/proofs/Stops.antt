@@ -3,7 +3,7 @@ use Rattle.std.proofs.Common.{◌≡◌, ◌≢◌, ℕ, ◌+◌, ◌-◌, ◌�
 use Rattle.std.specs.Prelude.{codes}
 use Rattle.std.proofs.lemmas.List.{take_all, take-take}
 use Rattle.ac_wav.specs.declared.fault.WavKind.{WavKind}
-use Rattle.ac_wav.specs.declared.fault.WavKind.TheVariants.{Short, NotRiff, NoFmt, NoData, BadFmt, Unsupported}
+use Rattle.ac_wav.specs.declared.fault.WavKind.TheVariants.{Short, NotRiff, NoFmt, NoData, BadFmt, Unsupported, NotYet}
 use Rattle.ac_wav.specs.declared.fault.WavFault.{WavFault}
 use Rattle.ac_wav.specs.declared.fault.WavFault.TheVariants.{Bad, ReadFault, TooLong}
 use Rattle.ac_wav.specs.declared.format.Fault.{Fault}
@@ -44,6 +44,7 @@ no_chunk_stops bytes place limit (Bad NoData at) r below within n =
     whole_front bytes limit NoData at (omega (arith, n.1)) (n.0, subst (λ (p : ℕ). Reaches bytes p) (n.1 ∙ sym n.0) r)
 no_chunk_stops bytes place limit (Bad (BadFmt field) at) r below within n = absurd n
 no_chunk_stops bytes place limit (Bad (Unsupported field value) at) r below within n = absurd n
+no_chunk_stops bytes place limit (Bad NotYet at) r below within n = absurd n
 no_chunk_stops bytes place limit ReadFault r below within n = tt
 no_chunk_stops bytes place limit TooLong r below within n = cut_head bytes place limit r below n.0 n.1
 
@@ -57,6 +58,7 @@ cut_stops bytes place limit (Bad NoFmt at) r below within nd u = absurd u
 cut_stops bytes place limit (Bad NoData at) r below within nd u = absurd u
 cut_stops bytes place limit (Bad (BadFmt field) at) r below within nd u = absurd u
 cut_stops bytes place limit (Bad (Unsupported field value) at) r below within nd u = absurd u
+cut_stops bytes place limit (Bad NotYet at) r below within nd u = absurd u
 cut_stops bytes place limit ReadFault r below within nd u = tt
 cut_stops bytes place limit TooLong r below within nd u =
     let long : length (take limit bytes) ≡ limit = length_cut bytes limit (omega (arith, u.0)) in
@@ -118,6 +120,7 @@ refused bytes NoFmt place k f = absurd k
 refused bytes NoData place k f = absurd k
 refused bytes (BadFmt field) place k f = f
 refused bytes (Unsupported field value) place k f = f
+refused bytes NotYet place k f = absurd k
 
 -- the `fmt ` chunk was read, and a test of it fails
 pub faulty_stops : (bytes : List ℕ) (place limit size : ℕ) (format : Format) (fault : Fault) (left : Option (List ℕ)) → IsOpen bytes place → name_of (drop place bytes) ≡ codes "fmt " → size ≡ size_of (drop place bytes)
@@ -151,6 +154,20 @@ sized_stops bytes place limit size fault r below within nd e u =
     cut_stops bytes place limit fault r below within nd (subst (λ (s : ℕ). IsUntaken bytes (place + 8) (padded s) limit fault) e u)
 
 -- ---- the 12-byte head
+
+-- the 12-byte head wasn't read to its end
+pub untaken_riff_stops : (bytes : List ℕ) (limit : ℕ) (fault : WavFault) → IsUntaken bytes 0 12 limit fault → IsStopped bytes limit fault
+untaken_riff_stops bytes limit (Bad Short at) u = whole_front bytes limit Short at u.2 (u.0, inl (omega (arith, u.1)))
+untaken_riff_stops bytes limit (Bad NotRiff at) u = absurd u
+untaken_riff_stops bytes limit (Bad NoFmt at) u = absurd u
+untaken_riff_stops bytes limit (Bad NoData at) u = absurd u
+untaken_riff_stops bytes limit (Bad (BadFmt field) at) u = absurd u
+untaken_riff_stops bytes limit (Bad (Unsupported field value) at) u = absurd u
+untaken_riff_stops bytes limit (Bad NotYet at) u = absurd u
+untaken_riff_stops bytes limit ReadFault u = tt
+untaken_riff_stops bytes limit TooLong u =
+    let long : length (take limit bytes) ≡ limit = length_cut bytes limit (omega (arith, u.0)) in
+    (u.0, inl (sym long, inl (omega (arith, long, u.1))))
 
 riff_front : (bytes riff : List ℕ) (left : Option (List ℕ)) → ReadsOn bytes 0 12 riff left → length riff ≡ 12 → riff ≡ take 12 bytes
 riff_front bytes riff left r long = sym (take_all 12 riff (omega arith)) ∙ r.front

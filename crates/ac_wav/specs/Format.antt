@@ -2,7 +2,7 @@
 use Rattle.std.specs.Prelude.{◌≡◌, ◌≤◌, ◌⊎◌, ℕ, ◌*◌, ◌/◌, ◌%◌, ◌^◌, Bool, not, ◌==◌, ◌||◌, ◌&&◌, leb, if◌then◌else◌, List, [], ◌∷◌, length, drop, Option, Some, None}
 use Rattle.byteorder.specs.Endian.{little_number}
 use Rattle.ac_wav.specs.declared.fault.WavKind.{WavKind}
-use Rattle.ac_wav.specs.declared.fault.WavKind.TheVariants.{Short, NotRiff, NoFmt, NoData, BadFmt, Unsupported}
+use Rattle.ac_wav.specs.declared.fault.WavKind.TheVariants.{Short, NotRiff, NoFmt, NoData, BadFmt, Unsupported, NotYet}
 use Rattle.ac_wav.specs.declared.fault.Field.TheVariants as fields
 use Rattle.ac_wav.specs.declared.format.Format.{Format}
 use Rattle.ac_wav.specs.declared.format.Fault.{Fault}
@@ -87,6 +87,7 @@ IsOfField NoFmt = ⊥
 IsOfField NoData = ⊥
 IsOfField (BadFmt field) = Unit {0}
 IsOfField (Unsupported field value) = Unit {0}
+IsOfField NotYet = ⊥
 
 -- the mask that the channels have
 abbrev pub layout_of : Format → ℕ

@@ -1,7 +1,7 @@
 -- Why a list of bytes is refused, and at which place: the first rule that fails, chunk by chunk.
 use Rattle.std.specs.Prelude.{◌≡◌, ◌≢◌, ℕ, ◌+◌, ◌≤◌, ◌<◌, ◌⊎◌, List, length, take, drop, codes, Option, Some}
 use Rattle.ac_wav.specs.declared.fault.WavKind.{WavKind}
-use Rattle.ac_wav.specs.declared.fault.WavKind.TheVariants.{Short, NotRiff, NoFmt, NoData, BadFmt, Unsupported}
+use Rattle.ac_wav.specs.declared.fault.WavKind.TheVariants.{Short, NotRiff, NoFmt, NoData, BadFmt, Unsupported, NotYet}
 use Rattle.ac_wav.specs.declared.fault.WavFault.{WavFault}
 use Rattle.ac_wav.specs.declared.fault.WavFault.TheVariants.{Bad, ReadFault, TooLong}
 use Rattle.ac_wav.specs.declared.format.Fault.{Fault}
@@ -49,6 +49,7 @@ Refuses bytes NoFmt place = IsOpen bytes place × IsDataAt bytes place
 Refuses bytes NoData place = (place ≡ length bytes) × Reaches bytes place
 Refuses bytes (BadFmt field) place = IsFaulty bytes (BadFmt field) place
 Refuses bytes (Unsupported field value) place = IsFaulty bytes (Unsupported field value) place
+Refuses bytes NotYet place = ⊥
 
 -- more than the first `limit` bytes are needed to read the head or to refuse it, and more are there
 abbrev pub IsTooLong : List ℕ → ℕ → Type 0

@@ -1,7 +1,14 @@
 use Rattle.std.proofs.Common.{arith}
 use Rattle.ac_wav.specs.Pieces.{IsAt}
-use Rattle.ac_wav.proofs.Stops.{riff_read, no_riff_stops}
+use Rattle.std.proofs.lemmas.Result.{err_from_is_err_and}
+use Rattle.ac_wav.proofs.Stops.{riff_read, no_riff_stops, untaken_riff_stops}
 use Rattle.ac_wav.proofs.head.read_riff.Goals as goal
+
+pub returns-in_err-read_exact-clause-told : goal.returns-in_err-read_exact-clause-told
+returns-in_err-read_exact-clause-told g c = λ bytes e.
+    let p = err_from_is_err_and c.from_residual.result c.from_residual.ensures.1 in
+    let at : IsAt bytes 0 (g.S.Source.left c.args.input.now) = record { within = omega arith; left_is = e } in
+    rw (p.1, p.2) (untaken_riff_stops bytes c.args.limit _ (c.in_err-read_exact.ensures.told bytes at))
 
 pub returns-in-None-clause-told : goal.returns-in-None-clause-told
 returns-in-None-clause-told g c = λ bytes e.
