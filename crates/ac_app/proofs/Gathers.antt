@@ -48,9 +48,3 @@ pub record SoFar (bytes : List ℕ) (head : WavHead) (samples : List ℤ) (taken
 pub none_yet : (bytes : List ℕ) (head : WavHead) (left : Option (List ℕ)) → IsAt bytes head.taken left → SoFar bytes head [] head.taken left
 none_yet bytes head left at = record { at = at; taken_is = omega arith; lists = λ j below. absurd (omega arith); some = omega arith }
 
--- the samples with a whole piece behind them
-pub one_more : (bytes : List ℕ) (head : WavHead) (samples row : List ℤ) (n taken after : ℕ) (rows : List (List ℤ)) (old new : Option (List ℕ))
-    → row ≡ slice_index_or rows 0 [] → SoFar bytes head samples taken old → SamplesRead bytes head taken (length samples) after n rows new
-    → (n ≡ 1536 → SoFar bytes head (samples ++ take n row) after new)
-    × (n < 1536 → IsAt bytes (head.taken + data_end) new × AreSamples (sound_of head bytes) (samples ++ take n row))
-one_more = ?
