@@ -1,8 +1,8 @@
 -- The sizes of frames.
-use Rattle.std.proofs.Common.{◌≡◌, ℕ, zero, suc, ◌+◌, ◌-◌, ◌*◌, ◌/◌, ◌<◌, ◌≤◌, Bool, true, false, refl, ap, sym, ◌∙◌, subst, arith, inl, inr, add-one}
+use Rattle.std.proofs.Common.{◌≡◌, ℕ, zero, suc, ◌+◌, ◌-◌, ◌*◌, ◌/◌, ◌≤◌, Bool, true, false, arith}
 use Rattle.std.specs.Prelude.{nat_eq, if◌then◌else◌}
 use Rattle.ac_base.specs.Rates.{IsRate}
-use Rattle.ac_base.specs.Sizes.{frame_words_of, words_before, table_words}
+use Rattle.ac_base.specs.Sizes.{frame_words_of, words_before}
 use Rattle.ac_base.proofs.RateTable.{rate_least, rate_most}
 use Rattle.ac_enc.specs.Frame.{words_so_far}
 
