@@ -4,7 +4,7 @@ use Rattle.std.specs.Prelude.{◌==◌, nat_lt, if◌then◌else◌}
 use Rattle.std.proofs.lemmas.Bool.{eqb-true}
 use Rattle.ac_base.specs.Rates.{rates, IsRate, HasCode}
 use Rattle.ac_base.specs.Shape.{IsSpan}
-use Rattle.ac_base.proofs.RateTable.{rate_least, rate_most}
+use Rattle.ac_base.specs.Sizes.{frame_words_of}
 use Rattle.ac_base.proofs.SpanBounds.{span_end}
 use Rattle.ac_base.proofs.Tests.{all_below-at}
 use Rattle.ac_bits.specs.Bits.{bits_of}
@@ -17,7 +17,8 @@ use Rattle.ac_expo.proofs.Spellings.{groups_long}
 use Rattle.ac_frame.specs.Plain.{d45_groups, end_bin, AreBytes, IsSized, IsPlain}
 use Rattle.ac_frame.proofs.Frames.{Made}
 use Rattle.ac_frame.proofs.Unique.{frame_size, first_part, both_parts, one_frame}
-use Rattle.ac_enc.specs.Frame.{bandwidth, mono_span, AreRaw, IsSpelled, IsFrame}
+use Rattle.ac_enc.specs.Frame.{bandwidth, mono_span, size_code, AreRaw, IsSpelled, IsFrame}
+use Rattle.ac_enc.proofs.Sizes.{words_fit}
 use Rattle.ac_enc.proofs.Spans.{groups_are}
 
 -- ---- the code
@@ -62,36 +63,32 @@ spelled_long rate x s p =
 
 -- ---- the frame
 
-sized : (rate : ℕ) (x : ℕ → ℤ) (frame : List ℕ) → IsRate rate → (p : IsFrame rate x frame) → IsSized (2 * rate) p.spelled.groups
-sized rate x frame is p =
-    let least = rate_least rate is in
-    let most = rate_most rate is in
+sized : (rate fscod i : ℕ) (x : ℕ → ℤ) (frame : List ℕ) → IsRate rate → (p : IsFrame rate fscod i x frame) → IsSized (frame_words_of rate fscod i) p.spelled.groups
+sized rate fscod i x frame is p =
+    let fit = words_fit rate fscod i is in
     let long = spelled_long rate x p.spelled p.is_spelled in
-    record { least = omega (arith, least); most = omega (arith, most); few = omega (arith, long) }
+    record { least = fit.0; most = fit.1; few = omega (arith, long) }
 
-abbrev made : ℕ → ℕ → Spelling → Made
-made rate code s = record { fscod = 0; frmsizecod = 2 * code; words = 2 * rate; bw = bandwidth rate; first = s.first; groups = s.groups }
+abbrev made : ℕ → ℕ → ℕ → ℕ → Spelling → Made
+made rate fscod i code s =
+    record { fscod = fscod; frmsizecod = size_code rate fscod i code; words = frame_words_of rate fscod i; bw = bandwidth rate; first = s.first; groups = s.groups }
 
-pub size : (rate : ℕ) (x : ℕ → ℤ) (frame : List ℕ) → IsRate rate → IsFrame rate x frame → length frame ≡ 4 * rate
-size rate x frame is p =
-    let a = made rate p.code p.spelled in
-    omega (arith, frame_size a frame (sized rate x frame is p) p.plain)
+pub size : (rate fscod i : ℕ) (x : ℕ → ℤ) (frame : List ℕ) → IsRate rate → fscod ≤ 2 → IsFrame rate fscod i x frame → length frame ≡ 2 * frame_words_of rate fscod i
+size rate fscod i x frame is known p = frame_size (made rate fscod i p.code p.spelled) frame (sized rate fscod i x frame is p) p.plain
 
-pub front : (rate : ℕ) (x : ℕ → ℤ) (frame : List ℕ) → IsFrame rate x frame → IsRemainder (bits_of (drop 2 (take (2 * (2 * rate / 2 + 2 * rate / 8)) frame))) 0
-front rate x frame p =
-    let a = made rate p.code p.spelled in
-    first_part a frame p.plain
+pub front : (rate fscod i : ℕ) (x : ℕ → ℤ) (frame : List ℕ) → IsFrame rate fscod i x frame
+    → let words = frame_words_of rate fscod i in IsRemainder (bits_of (drop 2 (take (2 * (words / 2 + words / 8)) frame))) 0
+front rate fscod i x frame p = first_part (made rate fscod i p.code p.spelled) frame p.plain
 
-pub whole : (rate : ℕ) (x : ℕ → ℤ) (frame : List ℕ) → IsFrame rate x frame → IsRemainder (bits_of (drop 2 frame)) 0
-whole rate x frame p =
-    let a = made rate p.code p.spelled in
-    both_parts a frame p.plain
+pub whole : (rate fscod i : ℕ) (x : ℕ → ℤ) (frame : List ℕ) → IsFrame rate fscod i x frame → IsRemainder (bits_of (drop 2 frame)) 0
+whole rate fscod i x frame p = both_parts (made rate fscod i p.code p.spelled) frame p.plain
 
-pub one : (rate : ℕ) (x : ℕ → ℤ) (f g : List ℕ) → IsRate rate → AreBytes f → AreBytes g → IsFrame rate x f → IsFrame rate x g → f ≡ g
-one rate x f g is bf bg p q =
-    let a = made rate p.code p.spelled in
+pub one : (rate fscod i : ℕ) (x : ℕ → ℤ) (f g : List ℕ) → IsRate rate → fscod ≤ 2 → AreBytes f → AreBytes g → IsFrame rate fscod i x f → IsFrame rate fscod i x g → f ≡ g
+one rate fscod i x f g is known bf bg p q =
+    let a = made rate fscod i p.code p.spelled in
+    let words = frame_words_of rate fscod i in
     let code = one_code rate q.code p.code q.has_code p.has_code in
     let spelling = one_spelling rate x q.spelled p.spelled q.is_spelled p.is_spelled in
-    let by_code = subst (λ (k : ℕ). IsPlain 0 (2 * k) (2 * rate) (bandwidth rate) q.spelled.first q.spelled.groups g) code q.plain in
-    let by_spelling = subst (λ (s : Spelling). IsPlain 0 (2 * p.code) (2 * rate) (bandwidth rate) s.first s.groups g) spelling by_code in
-    one_frame a f g (sized rate x f is p) bf bg p.plain by_spelling
+    let by_code = subst (λ (k : ℕ). IsPlain fscod (size_code rate fscod i k) words (bandwidth rate) q.spelled.first q.spelled.groups g) code q.plain in
+    let by_spelling = subst (λ (s : Spelling). IsPlain fscod (size_code rate fscod i p.code) words (bandwidth rate) s.first s.groups g) spelling by_code in
+    one_frame a f g (sized rate fscod i x f is p) bf bg p.plain by_spelling

@@ -1,4 +1,5 @@
 pub mod Frames
 pub mod Places
+pub mod Sizes
 pub mod Spans
 pub mod Silence

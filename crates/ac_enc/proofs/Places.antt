@@ -19,8 +19,8 @@ coefficient_same : (x y : ℕ → ℤ) → ((p : ℕ) → p < 1792 → x p ≡ y
 coefficient_same x y same b k below =
     ap coefficient (sum_same (λ n. rounded (x (256 * b + n)) (window_of n)) (λ n. rounded (y (256 * b + n)) (window_of n)) k (λ n within. ap (λ z. rounded z (window_of n)) (same (256 * b + n) (omega arith))))
 
-pub frame_same : (rate : ℕ) (x y : ℕ → ℤ) (frame : List ℕ) → ((p : ℕ) → p < 1792 → x p ≡ y p) → IsFrame rate x frame → IsFrame rate y frame
-frame_same rate x y frame same f = record {
+pub frame_same : (rate fscod i : ℕ) (x y : ℕ → ℤ) (frame : List ℕ) → ((p : ℕ) → p < 1792 → x p ≡ y p) → IsFrame rate fscod i x frame → IsFrame rate fscod i y frame
+frame_same rate fscod i x y frame same f = record {
   code = f.code;
   has_code = f.has_code;
   spelled = f.spelled;

@@ -1,5 +1,5 @@
 -- An array of zeros is within every bound.
-use Rattle.std.proofs.Common.{◌≡◌, ℕ, ◌^◌, ◌<◌, ◌≤◌, ℤ, pos, slice_index_or, unsigned_abs, replicate, sym, subst, lit≤}
+use Rattle.std.proofs.Common.{ℕ, ◌^◌, ◌<◌, ◌≤◌, ℤ, pos, slice_index_or, unsigned_abs, replicate, sym, subst, lit≤}
 use Rattle.std.proofs.lemmas.List.{get_or-replicate}
 
 pub silent : (n i : ℕ) → i < n → unsigned_abs (slice_index_or (replicate n (pos 0)) i (pos 0)) ≤ 2 ^ 23

@@ -1,6 +1,10 @@
+ghost use Rattle.std.specs.Prelude.{◌≤◌, ◌<◌, ◌^◌};
+ghost use Rattle.ac_base.specs.Rates.{IsRate};
+
 use super::*;
 use crate::law::frame_law;
 use ac_base::is_rate;
+use std::process::Abort;
 
 // syncword, then fscod 0 with frmsizecod, bsid 8 with bsmod 0, and the rest of bsi (A/52 5.4.1, 5.4.2).
 #[test]
@@ -21,16 +25,16 @@ fn heads_of_silence(rt: HostRuntime) {
     }
 }
 
-// The head of a frame of silence: its bytes, and the byte of fscod and frmsizecod (A/52 5.4.1.3, 5.4.1.4).
-fn check_size(rt: HostRuntime, rate: u16, fscod: u8, frame: u64, words: usize, code: u8)
+// A frame of silence has so many bytes, and this byte of fscod and frmsizecod (A/52 5.4.1.3, 5.4.1.4).
+fn check_size(rt: &impl Abort, rate: u16, fscod: u8, frame: u64, size: usize, codes: u8)
     requires rate { IsRate rate }
     requires sampling { fscod ≤ 2 }
     requires frame { frame < 2 ^ 32 }
 {
     let mut out = [0xff; 3840];
     let n = encode_frame(rate, fscod, frame, &[0; 256], &[0; 1536], &mut out);
-    assert_eq!(rt; n, 2 * words, "frame {frame}");
-    assert_eq!(rt; out[4], 64 * fscod + code, "frame {frame}");
+    assert_eq!(rt; n, size, "frame {frame}");
+    assert_eq!(rt; out[4], codes, "frame {frame}");
 }
 
 // A/52 Table 5.18: at 192 kbit/s 417 and 418 words with the codes 20 and 21 at 44.1 kHz,
@@ -38,13 +42,14 @@ fn check_size(rt: HostRuntime, rate: u16, fscod: u8, frame: u64, words: usize, c
 #[test]
 fn alternating_frame_sizes(rt: HostRuntime) {
     assert!(rt; is_rate(192));
-    check_size(rt, 192, 1, 0, 417, 20);
-    check_size(rt, 192, 1, 1, 418, 21);
+    check_size(&rt, 192, 1, 0, 834, 64 + 20);
+    check_size(&rt, 192, 1, 1, 836, 64 + 21);
     assert!(rt; is_rate(32));
-    check_size(rt, 32, 2, 0, 96, 0);
-    check_size(rt, 32, 2, 1, 96, 0);
-    let total: u32 = (0..147)
-        .map(|frame| u32::from(frame_words(192, 1, frame)))
-        .sum();
-    assert_eq!(rt; total, 61_440);
+    check_size(&rt, 32, 2, 0, 192, 128);
+    check_size(&rt, 32, 2, 1, 192, 128);
+    let mut words = 0;
+    for frame in 0..147u64 {
+        words += u32::from(frame_words(192, 1, frame));
+    }
+    assert_eq!(rt; words, 61_440);
 }

@@ -1,6 +1,7 @@
 use Rattle.std.proofs.Common.{sym}
 use Rattle.ac_enc.proofs.Frames.{size, front, whole, one}
 use Rattle.ac_enc.proofs.Places.{frame_same}
+use Rattle.ac_enc.proofs.Sizes.{kept}
 use Rattle.ac_enc.proofs.law.frame_law.Goals as goal
 
 pub returns-clause-size : goal.returns-clause-size
@@ -16,4 +17,7 @@ pub returns-clause-one : goal.returns-clause-one
 returns-clause-one c = one
 
 pub returns-clause-told : goal.returns-clause-told
-returns-clause-told c = λ rate x y frame same. (frame_same rate x y frame same, frame_same rate y x frame (λ p below. sym (same p below)))
+returns-clause-told c = λ rate fscod i x y frame same. (frame_same rate fscod i x y frame same, frame_same rate fscod i y x frame (λ p below. sym (same p below)))
+
+pub returns-clause-kept : goal.returns-clause-kept
+returns-clause-kept c = kept

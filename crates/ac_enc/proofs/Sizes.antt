@@ -1,0 +1,46 @@
+-- The sizes of frames.
+use Rattle.std.proofs.Common.{◌≡◌, ℕ, zero, suc, ◌+◌, ◌-◌, ◌*◌, ◌/◌, ◌≤◌, Bool, true, false, arith}
+use Rattle.std.specs.Prelude.{nat_eq, if◌then◌else◌}
+use Rattle.ac_base.specs.Rates.{IsRate}
+use Rattle.ac_base.specs.Sizes.{frame_words_of, words_before}
+use Rattle.ac_base.proofs.RateTable.{rate_least, rate_most}
+use Rattle.ac_enc.specs.Frame.{words_so_far}
+
+-- one frame more
+before_more : (rate n : ℕ) → 320 * rate * (n + 1) ≡ 320 * rate * n + 320 * rate
+before_more rate n = omega arith
+
+pub rising : (rate n : ℕ) → words_before rate n ≤ words_before rate (n + 1)
+rising rate n = let e = before_more rate n in omega (arith, e)
+
+pub kept : (rate n : ℕ) → words_so_far rate 1 n ≡ words_before rate n
+unfolding words_so_far
+kept rate zero = omega arith
+kept rate (suc n) =
+    let before = kept rate n in
+    let up = rising rate n in
+    let e : suc n ≡ n + 1 = omega arith in
+    rw e (omega (arith, before, up))
+
+-- a step of a floor is within one of the step's own
+between : (a b : ℕ) → 10240 ≤ b → b ≤ 204800 → (64 ≤ (a + b) / 147 - a / 147) × ((a + b) / 147 - a / 147 ≤ 1920)
+between a b least most = (omega arith, omega arith)
+
+alternating : (rate n : ℕ) → 32 ≤ rate → rate ≤ 640 → (64 ≤ words_before rate (n + 1) - words_before rate n) × (words_before rate (n + 1) - words_before rate n ≤ 1920)
+alternating rate n least most = rw (before_more rate n) (between (320 * rate * n) (320 * rate) (omega arith) (omega arith))
+
+-- the size of a frame
+abbrev Fits : ℕ → Type 0
+Fits words = (64 ≤ words) × (words ≤ 1920)
+
+chosen : (a b : Bool) (x y z : ℕ) → Fits x → Fits y → Fits z → Fits (if a then x else if b then y else z)
+chosen true b x y z p q r = p
+chosen false true x y z p q r = q
+chosen false false x y z p q r = r
+
+pub words_fit : (rate fscod i : ℕ) → IsRate rate → (64 ≤ frame_words_of rate fscod i) × (frame_words_of rate fscod i ≤ 1920)
+words_fit rate fscod i is =
+    let least = rate_least rate is in
+    let most = rate_most rate is in
+    chosen (nat_eq fscod 0) (nat_eq fscod 1) (2 * rate) (words_before rate (i + 1) - words_before rate i) (3 * rate)
+    (omega arith, omega arith) (alternating rate i least most) (omega arith, omega arith)
