@@ -29,7 +29,7 @@ RefusesWav bytes kind place = Refuses bytes kind place ⊎ ((kind ≡ Short) × 
 pub record RunsOn (bytes : List ℕ) : Type 0 where
   pub head : WavHead
   pub begins : IsHead bytes head
-  pub open : head.size ≡ None
+  pub unsized : head.size ≡ None
 
 -- byte number limit + 1 is needed to read the WAV or to refuse it, and it is there: the first `limit` bytes alone end too early,
 -- or their data run to the end of the input
