@@ -10,3 +10,4 @@ pub mod Unique
 pub mod Ways
 pub mod Endings
 pub mod Each
+pub mod Whole

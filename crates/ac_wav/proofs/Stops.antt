@@ -184,7 +184,7 @@ riff_read bytes riff left r long a b =
     let e = riff_front bytes riff left r long in
     (record { long = r.at.within; riff = front_riff bytes riff e ∙ a; wave = front_wave bytes riff e ∙ b }, r.at)
 
-no_riff : (bytes riff : List ℕ) (place : ℕ) → take 4 bytes ≡ take 4 riff → take 4 (drop 8 bytes) ≡ take 4 (drop 8 riff) → IsNoRiff riff place → IsNoRiff bytes place
+pub no_riff : (bytes riff : List ℕ) (place : ℕ) → take 4 bytes ≡ take 4 riff → take 4 (drop 8 bytes) ≡ take 4 (drop 8 riff) → IsNoRiff riff place → IsNoRiff bytes place
 no_riff bytes riff place a b (inl h) = inl (h.0, λ e. h.1 (sym a ∙ e))
 no_riff bytes riff place a b (inr h) = inr (h.0, a ∙ h.1, λ e. h.2 (sym b ∙ e))
 

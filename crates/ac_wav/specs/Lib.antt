@@ -4,4 +4,5 @@ pub mod Form
 pub mod Refusal
 pub mod Pieces
 pub mod Samples
+pub mod Whole
 pub mod Written

@@ -18,5 +18,5 @@ mod written;
 pub use body::WavBody;
 pub use fault::{Field, WavFault, WavKind};
 pub use head::WavHead;
-pub use law::head_law;
+pub use law::{head_law, wav_law};
 pub use written::{Pcm, wav_head, wav_samples};

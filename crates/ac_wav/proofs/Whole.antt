@@ -1,0 +1,260 @@
+-- The WAV as a whole, and what its first bytes tell of it.
+use Rattle.std.proofs.Common.{◌≡◌, ◌⊎◌, ℕ, ◌+◌, ◌-◌, ◌≤◌, ◌<◌, List, ◌++◌, length, take, drop, Option, None, Some, inl, inr, refl, sym, ap, subst, ◌∙◌, arith, length-take}
+use Rattle.std.specs.List.{concat}
+use Rattle.std.proofs.lemmas.Bool.{cases_lt}
+use Rattle.std.proofs.lemmas.List.{take-take, take_all}
+use Rattle.ac_wav.specs.declared.fault.WavKind.{WavKind}
+use Rattle.ac_wav.specs.declared.fault.WavKind.TheVariants.{Short, NotRiff, NoFmt, NoData, BadFmt, Unsupported, NotYet}
+use Rattle.ac_wav.specs.declared.head.WavHead.{WavHead}
+use Rattle.ac_wav.specs.Format.{format_of}
+use Rattle.ac_wav.specs.Form.{size_of, body_of, IsRiff, IsOpen, IsFormatted, IsDataAt, IsHead, head_of, stated, IsWav}
+use Rattle.ac_wav.specs.Refusal.{Reaches, IsNoRiff, IsFaulty, Refuses}
+use Rattle.ac_wav.specs.Whole.{end_of, HasCutData, RefusesWav, RunsOn, NeedsMore, EndsWithin, RefusedWithin}
+use Rattle.ac_wav.proofs.Chunks.{from_cut, name_cut, size_cut, length_cut, within_cut, open_least, start_least, formatted_cut}
+use Rattle.ac_wav.proofs.Stops.{no_riff}
+use Rattle.ac_wav.proofs.Endings.{never_both, one_head, one_refusal}
+use Rattle.ac_wav.proofs.Each.{each}
+
+-- ---- a head in the first bytes, and in the whole list
+
+pub head_place : (bytes : List ℕ) (head : WavHead) (h : IsHead bytes head) → head.taken ≡ h.place + 8
+head_place bytes head h = ap (λ (x : WavHead). x.taken) h.says
+
+pub taken_within : (bytes : List ℕ) (head : WavHead) → IsHead bytes head → head.taken ≤ length bytes
+taken_within bytes head h = omega (arith, head_place bytes head h, h.at.long)
+
+pub head_cut : (bytes : List ℕ) (head : WavHead) (limit : ℕ) → IsHead bytes head → head.taken ≤ limit → IsHead (take limit bytes) head
+head_cut bytes head limit h k =
+    let below : h.place + 8 ≤ limit = omega (arith, head_place bytes head h, k) in
+    record {
+      chunk = h.chunk;
+      place = h.place;
+      formatted = formatted_cut bytes h.chunk h.place limit (omega (arith, below)) h.formatted;
+      at = record { long = within_cut bytes (h.place + 8) limit h.at.long below; named = name_cut bytes h.place limit below ∙ h.at.named };
+      says = h.says ∙ ap (λ s. head_of (format_of (body_of h.chunk)) s (h.place + 8)) (sym (size_cut bytes h.place limit below));
+    }
+
+-- a place in the first bytes
+back_below : (bytes : List ℕ) (place limit : ℕ) → place ≤ length (take limit bytes) → (place ≤ limit) × (place ≤ length bytes)
+back_below bytes place limit h = (omega (arith, h, length-take limit bytes), omega (arith, h, length-take limit bytes))
+
+riff_back : (bytes : List ℕ) (limit : ℕ) → IsRiff (take limit bytes) → IsRiff bytes
+riff_back bytes limit r =
+    let b = back_below bytes 12 limit r.long in
+    record {
+      long = b.1;
+      riff = sym (take-take 4 limit bytes (omega (arith, b.0))) ∙ r.riff;
+      wave = sym (ap (take 4) (from_cut bytes 8 limit (omega (arith, b.0))) ∙ take-take 4 (limit - 8) (drop 8 bytes) (omega (arith, b.0))) ∙ r.wave;
+    }
+
+pub open_back : (bytes : List ℕ) (place limit : ℕ) → IsOpen (take limit bytes) place → IsOpen bytes place
+open_back bytes place limit o =
+    let b = back_below bytes place limit o.within in
+    let least = open_least (take limit bytes) place o in
+    record {
+      riff = riff_back bytes limit o.riff;
+      passed = o.passed;
+      before = o.before;
+      same = sym (take-take place limit bytes b.0) ∙ (o.same ∙ ap (λ l. l ++ concat o.passed) (take-take 12 limit bytes (omega (arith, least, b.0))));
+      within = b.1;
+    }
+
+pub formatted_back : (bytes chunk : List ℕ) (place limit : ℕ) → IsFormatted (take limit bytes) chunk place → IsFormatted bytes chunk place
+formatted_back bytes chunk place limit f =
+    let b = back_below bytes place limit f.within in
+    let least = start_least (take limit bytes) chunk place f in
+    record {
+      start = f.start;
+      opened = open_back bytes f.start limit f.opened;
+      whole = f.whole;
+      named = f.named;
+      accepted = f.accepted;
+      passed = f.passed;
+      behind = f.behind;
+      same = sym (take-take place limit bytes b.0) ∙ (f.same ∙ ap (λ l. l ++ (chunk ++ concat f.passed)) (take-take f.start limit bytes (omega (arith, least, b.0))));
+      within = b.1;
+    }
+
+data_back : (bytes : List ℕ) (place limit : ℕ) → IsDataAt (take limit bytes) place → IsDataAt bytes place
+data_back bytes place limit d =
+    let b = back_below bytes (place + 8) limit d.long in
+    record { long = b.1; named = sym (name_cut bytes place limit b.0) ∙ d.named }
+
+pub head_back : (bytes : List ℕ) (head : WavHead) (limit : ℕ) → IsHead (take limit bytes) head → IsHead bytes head
+head_back bytes head limit h =
+    let b = back_below bytes (h.place + 8) limit h.at.long in
+    record {
+      chunk = h.chunk;
+      place = h.place;
+      formatted = formatted_back bytes h.chunk h.place limit h.formatted;
+      at = data_back bytes h.place limit h.at;
+      says = h.says ∙ ap (λ s. head_of (format_of (body_of h.chunk)) s (h.place + 8)) (size_cut bytes h.place limit b.0);
+    }
+
+-- ---- a refusal of the first bytes
+
+faulty_back : (bytes : List ℕ) (limit : ℕ) (kind : WavKind) (place : ℕ) → IsFaulty (take limit bytes) kind place → IsFaulty bytes kind place
+faulty_back bytes limit kind place f =
+    let b = back_below bytes (f.start + length f.chunk) limit f.within in
+    record {
+      start = f.start;
+      opened = open_back bytes f.start limit f.opened;
+      chunk = f.chunk;
+      whole = f.whole;
+      named = f.named;
+      within = b.1;
+      same = sym (ap (take (length f.chunk)) (from_cut bytes f.start limit (omega (arith, b.0))) ∙ take-take (length f.chunk) (limit - f.start) (drop f.start bytes) (omega (arith, b.0))) ∙ f.same;
+      fault = f.fault;
+      first = f.first;
+      kind_is = f.kind_is;
+      place_is = f.place_is;
+    }
+
+no_riff_back : (bytes : List ℕ) (limit place : ℕ) → 12 ≤ limit → IsNoRiff (take limit bytes) place → IsNoRiff bytes place
+no_riff_back bytes limit place h n =
+    no_riff bytes (take limit bytes) place (sym (take-take 4 limit bytes (omega (arith, h))))
+    (sym (ap (take 4) (from_cut bytes 8 limit (omega (arith, h))) ∙ take-take 4 (limit - 8) (drop 8 bytes) (omega (arith, h)))) n
+
+-- the first bytes end too early
+abbrev IsEarlyEnd : List ℕ → ℕ → Type 0
+IsEarlyEnd bytes limit = Refuses (take limit bytes) Short limit ⊎ Refuses (take limit bytes) NoData limit
+
+-- what the first bytes are refused for the whole list is refused for, but for too early an end
+refused_back : (bytes : List ℕ) (limit : ℕ) (kind : WavKind) (place : ℕ) → limit ≤ length bytes → Refuses (take limit bytes) kind place → Refuses bytes kind place ⊎ IsEarlyEnd bytes limit
+refused_back bytes limit Short place h r = inr (inl (sym (length_cut bytes limit h), r.1))
+refused_back bytes limit NotRiff place h r = let b = back_below bytes 12 limit r.0 in inl (b.1, no_riff_back bytes limit place b.0 r.1)
+refused_back bytes limit NoFmt place h r = inl (open_back bytes place limit r.0, data_back bytes place limit r.1)
+refused_back bytes limit NoData place h r =
+    let long = length_cut bytes limit h in
+    inr (inr (sym long, subst (λ (p : ℕ). Reaches (take limit bytes) p) (r.0 ∙ long) r.1))
+refused_back bytes limit (BadFmt field) place h r = inl (faulty_back bytes limit (BadFmt field) place r)
+refused_back bytes limit (Unsupported field value) place h r = inl (faulty_back bytes limit (Unsupported field value) place r)
+refused_back bytes limit NotYet place h r = absurd r
+
+-- ---- the whole list
+
+-- data that run on end with the list
+pub runs_end : (bytes : List ℕ) (head : WavHead) → IsHead bytes head → head.size ≡ None → end_of head bytes ≡ length bytes
+runs_end bytes head h e =
+    let same : end_of head bytes ≡ head.taken + (length bytes - head.taken) = ap (λ s. head.taken + stated s (length bytes - head.taken)) e in
+    omega (arith, same, taken_within bytes head h)
+
+-- data of a stated size end where it says
+pub stated_end : (bytes : List ℕ) (head : WavHead) (size : ℕ) → head.size ≡ Some size → end_of head bytes ≡ head.taken + size
+stated_end bytes head size e = ap (λ s. head.taken + stated s (length bytes - head.taken)) e
+
+never_cut : (bytes : List ℕ) (head : WavHead) → IsHead bytes head → end_of head bytes ≤ length bytes → HasCutData bytes → ⊥
+never_cut bytes head h whole c =
+    let same : end_of head bytes ≡ end_of c.head bytes = ap (λ x. end_of x bytes) (one_head bytes head c.head h c.begins) in
+    absurd (omega (arith, whole, c.cut, same))
+
+pub wav_never_both : (bytes : List ℕ) (head : WavHead) (kind : WavKind) (place : ℕ) → IsWav bytes head → RefusesWav bytes kind place → ⊥
+wav_never_both bytes head kind place w (inl r) = never_both bytes head kind place w.begins r
+wav_never_both bytes head kind place w (inr c) = never_cut bytes head w.begins w.whole c.2
+
+pub wav_one_head : (bytes : List ℕ) (head other : WavHead) → IsWav bytes head → IsWav bytes other → head ≡ other
+wav_one_head bytes head other w v = one_head bytes head other w.begins v.begins
+
+pub wav_one_refusal : (bytes : List ℕ) (kind other : WavKind) (place there : ℕ) → RefusesWav bytes kind place → RefusesWav bytes other there → (kind ≡ other) × (place ≡ there)
+wav_one_refusal bytes kind other place there (inl r) (inl s) = one_refusal bytes kind other place there r s
+wav_one_refusal bytes kind other place there (inl r) (inr d) = absurd (never_both bytes d.2.head kind place d.2.begins r)
+wav_one_refusal bytes kind other place there (inr c) (inl s) = absurd (never_both bytes c.2.head other there c.2.begins s)
+wav_one_refusal bytes kind other place there (inr c) (inr d) = (c.0 ∙ sym d.0, c.1 ∙ sym d.1)
+
+pub wav_each : (bytes : List ℕ) → ((head : WavHead) × IsWav bytes head) ⊎ ((kind : WavKind) × (place : ℕ) × RefusesWav bytes kind place)
+wav_each bytes =
+    elim (each bytes) [
+      | inl h ↦ elim (cases_lt (length bytes) (end_of h.0 bytes)) [
+        | inl cut ↦ inr (Short, length bytes, inr (refl, refl, record { head = h.0; begins = h.1; cut = cut }))
+        | inr whole ↦ inl (h.0, record { begins = h.1; whole = whole })
+      ]
+      | inr r ↦ inr (r.0, r.1, inl r.2)
+    ]
+
+-- ---- within a limit
+
+abbrev IsToldWithin : List ℕ → ℕ → Type 0
+IsToldWithin bytes limit = ((head : WavHead) × EndsWithin bytes head limit) ⊎ (((kind : WavKind) × (place : ℕ) × RefusedWithin bytes kind place limit) ⊎ NeedsMore bytes limit)
+
+front_wav : (bytes : List ℕ) (limit : ℕ) (head : WavHead) (size : Option ℕ) → limit < length bytes → head.size ≡ size → IsWav (take limit bytes) head → IsToldWithin bytes limit
+front_wav bytes limit head None more e w = inr (inr (more, inr (inr (record { head = head; begins = w.begins; unsized = e }))))
+front_wav bytes limit head (Some size) more e w =
+    let ends : end_of head (take limit bytes) ≤ length (take limit bytes) = w.whole in
+    let b = back_below bytes (end_of head (take limit bytes)) limit ends in
+    let same : end_of head bytes ≡ end_of head (take limit bytes) = stated_end bytes head size e ∙ sym (stated_end (take limit bytes) head size e) in
+    inl (head, record { whole = record { begins = head_back bytes head limit w.begins; whole = omega (arith, b.1, same) }; within = omega (arith, b.0, same) })
+
+front_refused : (bytes : List ℕ) (limit : ℕ) (kind : WavKind) (place : ℕ) → limit < length bytes → RefusesWav (take limit bytes) kind place → IsToldWithin bytes limit
+front_refused bytes limit kind place more (inl r) =
+    elim (refused_back bytes limit kind place (omega (arith, more)) r) [
+      | inl s ↦ inr (inl (kind, place, (inl s, inl r)))
+      | inr (inl s) ↦ inr (inr (more, inl (inl s)))
+      | inr (inr s) ↦ inr (inr (more, inr (inl s)))
+    ]
+front_refused bytes limit kind place more (inr c) = inr (inr (more, inl (inr (refl, sym (length_cut bytes limit (omega (arith, more))), c.2))))
+
+pub each_within : (bytes : List ℕ) (limit : ℕ) → ((head : WavHead) × EndsWithin bytes head limit) ⊎ (((kind : WavKind) × (place : ℕ) × RefusedWithin bytes kind place limit) ⊎ NeedsMore bytes limit)
+each_within bytes limit =
+    elim (cases_lt limit (length bytes)) [
+      | inl more ↦ elim (wav_each (take limit bytes)) [
+        | inl w ↦ front_wav bytes limit w.0 w.0.size more refl w.1
+        | inr r ↦ front_refused bytes limit r.0 r.1 more r.2
+      ]
+      | inr all ↦ elim (wav_each bytes) [
+        | inl w ↦ inl (w.0, record { whole = w.1; within = omega (arith, w.1.whole, all) })
+        | inr r ↦ inr (inl (r.0, r.1, (r.2, subst (λ (l : List ℕ). RefusesWav l r.0 r.1) (sym (take_all limit bytes all)) r.2)))
+      ]
+    ]
+
+-- the first bytes of a WAV that ends at the limit or before are that WAV
+sized_cut : (bytes : List ℕ) (head : WavHead) (limit : ℕ) (size : Option ℕ) → EndsWithin bytes head limit → limit < length bytes → head.size ≡ size
+    → IsWav (take limit bytes) head × ((size : ℕ) × (head.size ≡ Some size))
+sized_cut bytes head limit None w more e =
+    let ends = runs_end bytes head w.whole.begins e in
+    absurd (omega (arith, ends, w.within, more))
+sized_cut bytes head limit (Some size) w more e =
+    let within : end_of head bytes ≤ limit = w.within in
+    let a : end_of head bytes ≡ head.taken + size = stated_end bytes head size e in
+    let b : end_of head (take limit bytes) ≡ head.taken + size = stated_end (take limit bytes) head size e in
+    let long = length_cut bytes limit (omega (arith, more)) in
+    let whole : end_of head (take limit bytes) ≤ length (take limit bytes) = omega (arith, within, a, b, long) in
+    (record { begins = head_cut bytes head limit w.whole.begins (omega (arith, within, a)); whole = whole }, (size, e))
+
+sized_runs : (head other : WavHead) (size : ℕ) → head ≡ other → head.size ≡ Some size → other.size ≡ None → ⊥
+sized_runs head other size e a b = let c : ◌≡◌ {A = Option ℕ} (Some size) None = sym a ∙ (ap (λ (h : WavHead). h.size) e ∙ b) in absurd (cc)
+
+pub never_ends_and_needs : (bytes : List ℕ) (head : WavHead) (limit : ℕ) → EndsWithin bytes head limit → NeedsMore bytes limit → ⊥
+never_ends_and_needs bytes head limit w (more, inl r) =
+    wav_never_both (take limit bytes) head Short limit (sized_cut bytes head limit head.size w more refl).0 r
+never_ends_and_needs bytes head limit w (more, inr (inl r)) =
+    wav_never_both (take limit bytes) head NoData limit (sized_cut bytes head limit head.size w more refl).0 (inl r)
+never_ends_and_needs bytes head limit w (more, inr (inr o)) =
+    let c = sized_cut bytes head limit head.size w more refl in
+    sized_runs head o.head c.1.0 (one_head (take limit bytes) head o.head c.0.begins o.begins) c.1.1 o.unsized
+
+-- too early an end is refused at the end
+early_place : (bytes : List ℕ) (kind : WavKind) (place : ℕ) → (kind ≡ Short) ⊎ (kind ≡ NoData) → RefusesWav bytes kind place → place ≡ length bytes
+early_place bytes kind place (inl e) (inl r) = (subst (λ (k : WavKind). Refuses bytes k place) e r).0
+early_place bytes kind place (inr e) (inl r) = (subst (λ (k : WavKind). Refuses bytes k place) e r).0
+early_place bytes kind place e (inr c) = c.1
+
+early_stays : (bytes : List ℕ) (kind other : WavKind) (place limit : ℕ) → (other ≡ Short) ⊎ (other ≡ NoData) → limit < length bytes → RefusedWithin bytes kind place limit
+    → RefusesWav (take limit bytes) other limit → ⊥
+early_stays bytes kind other place limit e more r s =
+    let same = wav_one_refusal (take limit bytes) kind other place limit r.1 s in
+    let k : (kind ≡ Short) ⊎ (kind ≡ NoData) = elim e [ | inl a ↦ inl (same.0 ∙ a) | inr a ↦ inr (same.0 ∙ a) ] in
+    let place_is = early_place bytes kind place k r.0 in
+    absurd (omega (arith, place_is, same.1, more))
+
+runs_refused : (bytes : List ℕ) (kind : WavKind) (place : ℕ) → RefusesWav bytes kind place → RunsOn bytes → ⊥
+runs_refused bytes kind place r o =
+    let ends = runs_end bytes o.head o.begins o.unsized in
+    wav_never_both bytes o.head kind place (record { begins = o.begins; whole = omega (arith, ends) }) r
+
+pub never_refused_and_needs : (bytes : List ℕ) (kind : WavKind) (place limit : ℕ) → RefusedWithin bytes kind place limit → NeedsMore bytes limit → ⊥
+never_refused_and_needs bytes kind place limit r (more, inl s) = early_stays bytes kind Short place limit (inl refl) more r s
+never_refused_and_needs bytes kind place limit r (more, inr (inl s)) = early_stays bytes kind NoData place limit (inr refl) more r (inl s)
+never_refused_and_needs bytes kind place limit r (more, inr (inr o)) = runs_refused (take limit bytes) kind place r.1 o
+
+pub never_ends_and_refused : (bytes : List ℕ) (head : WavHead) (kind : WavKind) (place limit : ℕ) → EndsWithin bytes head limit → RefusedWithin bytes kind place limit → ⊥
+never_ends_and_refused bytes head kind place limit w r = wav_never_both bytes head kind place w.whole r.0
