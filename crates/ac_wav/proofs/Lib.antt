@@ -11,3 +11,4 @@ pub mod Ways
 pub mod Endings
 pub mod Each
 pub mod Whole
+pub mod Exact

@@ -1,15 +1,18 @@
 -- The WAV as a whole, and what its first bytes tell of it.
-use Rattle.std.proofs.Common.{◌≡◌, ◌⊎◌, ℕ, ◌+◌, ◌-◌, ◌≤◌, ◌<◌, List, ◌++◌, length, take, drop, Option, None, Some, inl, inr, refl, sym, ap, subst, ◌∙◌, arith, length-take}
+use Rattle.std.proofs.Common.{◌≡◌, ◌⊎◌, ℕ, ◌+◌, ◌-◌, ◌*◌, ◌≤◌, ◌<◌, List, ◌++◌, length, take, drop, Option, None, Some, inl, inr, refl, sym, ap, subst, ◌∙◌, arith, length-take}
+use Rattle.std.specs.Prelude.{ℤ, min}
 use Rattle.std.specs.List.{concat}
 use Rattle.std.proofs.lemmas.Bool.{cases_lt}
 use Rattle.std.proofs.lemmas.List.{take-take, take_all}
 use Rattle.ac_wav.specs.declared.fault.WavKind.{WavKind}
 use Rattle.ac_wav.specs.declared.fault.WavKind.TheVariants.{Short, NotRiff, NoFmt, NoData, BadFmt, Unsupported, NotYet}
+use Rattle.ac_wav.specs.declared.fault.WavFault.TheVariants.{Bad, ReadFault, TooLong}
 use Rattle.ac_wav.specs.declared.head.WavHead.{WavHead}
 use Rattle.ac_wav.specs.Format.{format_of}
 use Rattle.ac_wav.specs.Form.{size_of, body_of, IsRiff, IsOpen, IsFormatted, IsDataAt, IsHead, head_of, stated, IsWav}
-use Rattle.ac_wav.specs.Refusal.{Reaches, IsNoRiff, IsFaulty, Refuses}
-use Rattle.ac_wav.specs.Whole.{end_of, HasCutData, RefusesWav, RunsOn, NeedsMore, EndsWithin, RefusedWithin}
+use Rattle.ac_wav.specs.Refusal.{Reaches, IsNoRiff, IsFaulty, Refuses, IsTooLong, IsStopped}
+use Rattle.ac_wav.specs.Samples.{align_of, data_length, part_of, frame_bytes, SamplesRead, IsUnsampled}
+use Rattle.ac_wav.specs.Whole.{end_of, behind, HasCutData, RefusesWav, RunsOn, NeedsMore, EndsWithin, RefusedWithin}
 use Rattle.ac_wav.proofs.Chunks.{from_cut, name_cut, size_cut, length_cut, within_cut, open_least, start_least, formatted_cut}
 use Rattle.ac_wav.proofs.Stops.{no_riff}
 use Rattle.ac_wav.proofs.Endings.{never_both, one_head, one_refusal}
@@ -242,7 +245,7 @@ early_stays : (bytes : List ℕ) (kind other : WavKind) (place limit : ℕ) → 
     → RefusesWav (take limit bytes) other limit → ⊥
 early_stays bytes kind other place limit e more r s =
     let same = wav_one_refusal (take limit bytes) kind other place limit r.1 s in
-    let k : (kind ≡ Short) ⊎ (kind ≡ NoData) = elim e [ | inl a ↦ inl (same.0 ∙ a) | inr a ↦ inr (same.0 ∙ a) ] in
+    let k : (kind ≡ Short) ⊎ (kind ≡ NoData) = elim e [ inl a ↦ inl (same.0 ∙ a) | inr a ↦ inr (same.0 ∙ a) ] in
     let place_is = early_place bytes kind place k r.0 in
     absurd (omega (arith, place_is, same.1, more))
 
@@ -258,3 +261,84 @@ never_refused_and_needs bytes kind place limit r (more, inr (inr o)) = runs_refu
 
 pub never_ends_and_refused : (bytes : List ℕ) (head : WavHead) (kind : WavKind) (place limit : ℕ) → EndsWithin bytes head limit → RefusedWithin bytes kind place limit → ⊥
 never_ends_and_refused bytes head kind place limit w r = wav_never_both bytes head kind place w.whole r.0
+
+-- ---- a head that wasn't read
+
+-- too long a head needs a byte past the limit
+pub stopped_needs : (bytes : List ℕ) (limit : ℕ) → IsTooLong bytes limit → NeedsMore bytes limit
+stopped_needs bytes limit (more, inl r) = (more, inl (inl r))
+stopped_needs bytes limit (more, inr r) = (more, inr (inl r))
+
+-- a head that is refused is refused within the limit
+pub stopped_refused : (bytes : List ℕ) (limit : ℕ) (kind : WavKind) (place : ℕ) → IsStopped bytes limit (Bad kind place) → RefusedWithin bytes kind place limit
+stopped_refused bytes limit kind place r = (inl r.0, inl r.1)
+
+-- ---- samples that weren't read
+
+-- what is asked for is no more than a full piece, and stands within the data that are stated
+pub part_most : (size : Option ℕ) (full done : ℕ) → part_of size full done ≤ full
+part_most None full done = omega arith
+part_most (Some size) full done = omega arith
+
+part_within : (size taken before full limit : ℕ) → before ≤ limit → limit < before + part_of (Some size) full (before - taken) → limit < taken + size
+part_within size taken before full limit h k = omega (arith, h, k)
+
+-- where a byte past the limit is asked for and there, the data go on past the limit
+pub asked_within : (bytes : List ℕ) (head : WavHead) (size : Option ℕ) (before limit : ℕ) → head.size ≡ size → before ≤ limit → limit < length bytes → limit < before + frame_bytes head before
+    → limit < head.taken + data_length head bytes
+asked_within bytes head None before limit e h more k =
+    let same : head.taken + data_length head bytes ≡ head.taken + (length bytes - head.taken) = ap (λ s. head.taken + stated s (length bytes - head.taken)) e in
+    omega (arith, same, more)
+asked_within bytes head (Some size) before limit e h more k =
+    let same : head.taken + data_length head bytes ≡ head.taken + size = ap (λ s. head.taken + stated s (length bytes - head.taken)) e in
+    let frame : frame_bytes head before ≡ part_of (Some size) (1536 * align_of head) (before - head.taken) = ap (λ s. part_of s (1536 * align_of head) (before - head.taken)) e in
+    let asked : limit < before + part_of (Some size) (1536 * align_of head) (before - head.taken) = omega (arith, frame, k) in
+    let inside = part_within size head.taken before (1536 * align_of head) limit h asked in
+    omega (arith, same, inside)
+
+-- cut data are a refusal within the limit
+pub unsampled_refused : (bytes : List ℕ) (head : WavHead) (before limit : ℕ) (kind : WavKind) (place : ℕ) → IsHead bytes head → IsUnsampled bytes head before limit (Bad kind place)
+    → RefusedWithin bytes kind place limit
+unsampled_refused bytes head before limit Short place h u =
+    let cut : length bytes < end_of head bytes = u.1 in
+    let r : RefusesWav bytes Short place = inr (refl, u.0, record { head = head; begins = h; cut = cut }) in
+    (r, subst (λ (l : List ℕ). RefusesWav l Short place) (sym (take_all limit bytes u.3)) r)
+unsampled_refused bytes head before limit NotRiff place h u = absurd u
+unsampled_refused bytes head before limit NoFmt place h u = absurd u
+unsampled_refused bytes head before limit NoData place h u = absurd u
+unsampled_refused bytes head before limit (BadFmt field) place h u = absurd u
+unsampled_refused bytes head before limit (Unsupported field value) place h u = absurd u
+unsampled_refused bytes head before limit NotYet place h u = absurd u
+
+sized_needs : (bytes : List ℕ) (head : WavHead) (before limit : ℕ) (size : Option ℕ) → head.size ≡ size → IsHead (take limit bytes) head → before ≤ limit → limit < length bytes
+    → limit < before + frame_bytes head before → NeedsMore bytes limit
+sized_needs bytes head before limit None e h below more asked = (more, inr (inr (record { head = head; begins = h; unsized = e })))
+sized_needs bytes head before limit (Some size) e h below more asked =
+    let past : limit < head.taken + data_length head bytes = asked_within bytes head (Some size) before limit e below more asked in
+    let a : head.taken + data_length head bytes ≡ head.taken + size = stated_end bytes head size e in
+    let b : end_of head (take limit bytes) ≡ head.taken + size = stated_end (take limit bytes) head size e in
+    let long = length_cut bytes limit (omega (arith, more)) in
+    (more, inl (inr (refl, sym long, record { head = head; begins = h; cut = omega (arith, past, a, b, long) })))
+
+-- samples past the limit need a byte past it
+pub unsampled_needs : (bytes : List ℕ) (head : WavHead) (before limit : ℕ) → IsHead bytes head → head.taken ≤ before → before ≤ limit → IsUnsampled bytes head before limit TooLong → NeedsMore bytes limit
+unsampled_needs bytes head before limit h least below u =
+    sized_needs bytes head before limit head.size refl (head_cut bytes head limit h (omega (arith, least, below))) below u.0 u.1
+
+-- ---- samples to the end of the data
+
+pub read_whole : (bytes : List ℕ) (head : WavHead) (before «from» after n : ℕ) (rows : List (List ℤ)) (left : Option (List ℕ)) → IsHead bytes head
+    → SamplesRead bytes head before «from» after n rows left → n < 1536 → IsWav bytes head
+read_whole bytes head before «from» after n rows left h r below =
+    let e : after ≡ head.taken + data_length head bytes = r.end below in
+    record { begins = h; whole = omega (arith, e, r.at.within) }
+
+pub read_within : (bytes : List ℕ) (head : WavHead) (before «from» after n limit : ℕ) (rows : List (List ℤ)) (left : Option (List ℕ)) → IsHead bytes head
+    → SamplesRead bytes head before «from» after n rows left → n < 1536 → after ≤ limit → EndsWithin bytes head limit
+read_within bytes head before «from» after n limit rows left h r below within =
+    let e : after ≡ end_of head bytes = r.end below in
+    record { whole = read_whole bytes head before «from» after n rows left h r below; within = omega (arith, e, within) }
+
+pub read_left : (bytes : List ℕ) (head : WavHead) (before «from» after n : ℕ) (rows : List (List ℤ)) (left : Option (List ℕ)) → SamplesRead bytes head before «from» after n rows left → n < 1536
+    → left ≡ Some (behind head bytes)
+read_left bytes head before «from» after n rows left r below = r.at.left_is ∙ ap (λ k. Some (drop k bytes)) (r.end below)

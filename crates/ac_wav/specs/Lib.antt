@@ -4,5 +4,6 @@ pub mod Form
 pub mod Refusal
 pub mod Pieces
 pub mod Samples
+pub mod Body
 pub mod Whole
 pub mod Written

@@ -1,5 +1,5 @@
 -- Why a list of bytes is refused, and at which place: the first rule that fails, chunk by chunk.
-use Rattle.std.specs.Prelude.{◌≡◌, ◌≢◌, ℕ, ◌+◌, ◌≤◌, ◌<◌, ◌⊎◌, List, length, take, drop, codes, Option, Some}
+use Rattle.std.specs.Prelude.{◌≡◌, ◌≢◌, ℕ, ◌+◌, ◌≤◌, ◌<◌, ◌⊎◌, List, length, take, drop, codes, Option, Some, Result, Ok, Err}
 use Rattle.ac_wav.specs.declared.fault.WavKind.{WavKind}
 use Rattle.ac_wav.specs.declared.fault.WavKind.TheVariants.{Short, NotRiff, NoFmt, NoData, BadFmt, Unsupported, NotYet}
 use Rattle.ac_wav.specs.declared.fault.WavFault.{WavFault}
@@ -66,3 +66,9 @@ pub record HeadRead (bytes : List ℕ) (limit : ℕ) (head : WavHead) (left : Op
   pub is : IsHead bytes head
   pub within : head.taken ≤ limit
   pub left_is : left ≡ Some (drop head.taken bytes)
+
+-- where no read fails, the answer is the refusal whose cause is there, or the head that is there
+pub record ReadsExactly (bytes : List ℕ) (limit : ℕ) (result : Result WavHead WavFault) : Type 0 where
+  pub too_long : IsTooLong bytes limit → result ≡ Err TooLong
+  pub refused : (kind : WavKind) (place : ℕ) → Refuses bytes kind place → Refuses (take limit bytes) kind place → result ≡ Err (Bad kind place)
+  pub accepted : (head : WavHead) → IsHead bytes head → head.taken ≤ limit → result ≡ Ok head

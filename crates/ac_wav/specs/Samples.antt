@@ -1,5 +1,5 @@
 -- The samples of a WAV: 24 bits, by coded channels, LFE last. Those of 16 bits are multiplied by 256.
-use Rattle.std.specs.Prelude.{◌≡◌, ℕ, ◌+◌, ◌-◌, ◌*◌, ◌/◌, ◌^◌, ◌<◌, ◌≤◌, min, ◌==◌, ◌&&◌, nat_lt, if◌then◌else◌, List, [], length, drop, take, slice_index, slice_index_or, Option, Some, None, ℤ, pos, ◌*ℤ◌, unsigned_abs}
+use Rattle.std.specs.Prelude.{◌≡◌, ℕ, ◌+◌, ◌-◌, ◌*◌, ◌/◌, ◌^◌, ◌<◌, ◌≤◌, min, ◌==◌, ◌&&◌, nat_lt, if◌then◌else◌, List, [], length, drop, take, slice_index, slice_index_or, Option, Some, None, Result, Err, ℤ, pos, ◌*ℤ◌, unsigned_abs}
 use Rattle.byteorder.specs.Endian.{little_number, twos_complement}
 use Rattle.ac_wav.specs.declared.fault.WavKind.TheVariants.{Short, NotRiff, NoFmt, NoData, BadFmt, Unsupported, NotYet}
 use Rattle.ac_wav.specs.declared.fault.WavFault.{WavFault}
@@ -83,6 +83,11 @@ IsUnsampled bytes head before limit (Bad (Unsupported field value) place) = ⊥
 IsUnsampled bytes head before limit (Bad NotYet place) = ⊥
 IsUnsampled bytes head before limit ReadFault = Unit {0}
 IsUnsampled bytes head before limit TooLong = (limit < length bytes) × (limit < before + frame_bytes head before)
+
+-- where no read fails, the answer is the refusal whose cause is there
+pub record StopsExactly (bytes : List ℕ) (head : WavHead) (before limit : ℕ) (result : Result ℕ WavFault) : Type 0 where
+  pub too_long : IsUnsampled bytes head before limit TooLong → result ≡ Err TooLong
+  pub short : IsUnsampled bytes head before limit (Bad Short (length bytes)) → result ≡ Err (Bad Short (length bytes))
 
 -- a body stands at its head's end or behind it, and within a stated size
 pub record IsStanding (head : WavHead) (taken : ℕ) : Type 0 where

@@ -1,7 +1,7 @@
 //! The samples of a WAV, read piece by piece.
-ghost use Rattle.std.specs.Prelude.{◌≡◌, ℕ, ◌+◌, ◌-◌, ◌*◌, ◌/◌, ◌^◌, ◌<◌, ◌≤◌, List, length, drop, nat_lt, Option, Some, None, IfOk, IfErr, MatchResult, IsErrOf, Bool, true, false, Ok, Err, replicate, pos, ◌||◌};
+ghost use Rattle.std.specs.Prelude.{◌≡◌, ℕ, ◌+◌, ◌*◌, ◌≤◌, List, IfOk, MatchResult, IsErrOf};
 ghost use Rattle.ac_io.specs.Outside.{Rose};
-ghost use Rattle.ac_wav.specs.Form.{IsOfProfile, stated};
+ghost use Rattle.ac_wav.specs.Form.{IsOfProfile};
 ghost use Rattle.ac_wav.specs.Pieces.{IsAt};
 ghost use Rattle.ac_wav.specs.Samples.{align_of, frame_bytes, part_of, RowsWithin, RowsAre, SamplesRead, IsUnsampled, IsStanding, PartRead};
 ghost use Rattle.ac_wav.specs.declared.fault.WavFault.{WavFault};
@@ -79,6 +79,7 @@ fn read_samples<S: Source>(
     requires standing { IsStanding head.now taken }
     requires room { taken ≤ limit }
     ensures most { IfOk result (λ piece. piece.samples ≤ 1536) }
+    ensures full { IfOk result (λ piece. piece.samples ≡ 1536 → piece.bytes ≡ 1536 * align_of head.now) }
     ensures within { IfOk result (λ piece. taken + piece.bytes ≤ limit) }
     ensures stands { IfOk result (λ piece. IsStanding head.now (taken + piece.bytes)) }
     ensures bound { IfOk result (λ _. RowsWithin out.new) }
@@ -109,79 +110,6 @@ pub struct WavBody {
     ghost room: { taken ≤ limit },
 }
 
-/// Sets all rows to 0.
-fn clear(out: &mut [[i32; 1536]; 6])
-    ensures { out.new ≡ replicate 6 (replicate 1536 (pos 0)) }
-{
-    *out = [[0; 1536]; 6];
-}
-
-impl WavBody {
-    /// A body that stands at the first byte of the data, and keeps no refusal.
-    pub fn new(head: &WavHead, limit: u64) -> WavBody
-        requires profile { IsOfProfile head.now }
-        requires room { head.now.taken ≤ limit }
-        ensures head { result.head ≡ head.now }
-        ensures limit { result.limit ≡ limit }
-        ensures taken { result.taken ≡ head.now.taken }
-        ensures ended { result.ended ≡ false }
-        ensures kept { result.kept ≡ None }
-    {
-        WavBody {
-            head: *head,
-            limit,
-            taken: head.taken,
-            ended: false,
-            kept: None,
-        }
-    }
-
-    /// The next samples of each coded channel, in coding order with LFE last, of 24 bits; zeros stand behind them.
-    /// Gives their number. Below 1,536 it is the end of the data, and from then on it is 0, without a read.
-    ///
-    /// # Errors
-    ///
-    /// `Bad(Short, ..)` where the input ends inside data of a stated size, `TooLong` where a byte past the limit is
-    /// needed and there, `ReadFault` where a read failed. From then on it is the same refusal, without a read.
-    pub fn samples<S: Source>(
-        &mut self,
-        input: &mut S,
-        out: &mut [[i32; 1536]; 6],
-    ) -> Result<usize, WavFault>
-        ensures head { self.new.head ≡ self.old.head }
-        ensures limit { self.new.limit ≡ self.old.limit }
-        ensures most { IfOk result (λ n. n ≤ 1536) }
-        ensures bound { IfOk result (λ _. RowsWithin out.new) }
-        ensures told { (bytes : List ℕ) («from» : ℕ) → IsAt bytes self.old.taken (S.left input.old) → self.old.taken ≡ self.old.head.taken + «from» * align_of self.old.head
-            → self.old.ended ≡ false → self.old.kept ≡ None → MatchResult result
-            (λ n. SamplesRead bytes self.old.head self.old.taken «from» self.new.taken n out.new (S.left input.new)) (IsUnsampled bytes self.old.head self.old.taken self.old.limit) }
-        ensures ends { self.old.kept ≡ None → IfOk result (λ n. (self.new.kept ≡ None) × (self.new.ended ≡ (self.old.ended || nat_lt n 1536))) }
-        ensures keeps { IfErr result (λ fault. self.new.kept ≡ Some fault) }
-        ensures refused { (fault : WavFault) → self.old.kept ≡ Some fault → (result ≡ Err fault) × (self.new ≡ self.old) × (input.new ≡ input.old) × (out.new ≡ out.old) }
-        ensures over { self.old.kept ≡ None → self.old.ended ≡ true → (result ≡ Ok 0) × (self.new ≡ self.old) × (input.new ≡ input.old) × (out.new ≡ replicate 6 (replicate 1536 (pos 0))) }
-        ensures failed { self.old.kept ≡ None → IsErrOf result WavFault.ReadFault → Rose (S.faults input.old) (S.faults input.new) }
-        ensures never_falls { S.faults input.old ≤ S.faults input.new }
-    {
-        if let Some(fault) = self.kept {
-            return Err(fault);
-        }
-        if self.ended {
-            clear(out);
-            return Ok(0);
-        }
-        match read_samples(&self.head, self.taken, self.limit, input, out) {
-            Ok(piece) => {
-                self.taken += piece.bytes;
-                self.ended = piece.samples < 1536;
-                Ok(piece.samples)
-            }
-            Err(fault) => {
-                self.kept = Some(fault);
-                Err(fault)
-            }
-        }
-    }
-}
-
+mod reader;
 #[cfg(test)]
 mod tests;

@@ -1,10 +1,11 @@
 //! The head of a WAV.
-ghost use Rattle.std.specs.Prelude.{◌≡◌, ◌≢◌, ℕ, ◌+◌, ◌≤◌, ◌<◌, ◌⊎◌, List, length, drop, codes, Option, Some, None, take, IfOk, OnOk, MatchOption, MatchResult, IsErrOf};
+ghost use Rattle.std.specs.Prelude.{◌≡◌, ◌≢◌, ℕ, ◌+◌, ◌≤◌, ◌<◌, ◌⊎◌, List, length, drop, codes, Option, Some, None, take, IfOk, OnOk, MatchOption, MatchResult, IsErrOf, Err};
 ghost use Rattle.ac_io.specs.Outside.{Rose};
 ghost use Rattle.ac_wav.specs.Format.{fields_of, fault_of, fscod_of, IsFine};
 ghost use Rattle.ac_wav.specs.Form.{name_of, size_of, padded, whole_length, IsRiff, IsOpen, IsFormatted, IsDataAt, head_of, data_size, IsOfProfile};
-ghost use Rattle.ac_wav.specs.Refusal.{Reaches, IsNoRiff, IsStopped, HeadRead};
+ghost use Rattle.ac_wav.specs.Refusal.{Reaches, IsNoRiff, IsStopped, HeadRead, ReadsExactly};
 ghost use Rattle.ac_wav.specs.Pieces.{IsAt, ReadsOn, IsUntaken, ChunkRead, FormatRead, IsFound, DataFound};
+ghost use Rattle.ac_wav.specs.declared.fault.WavFault.{WavFault};
 
 use crate::chunk::{ChunkHead, Name, read_chunk_head};
 use crate::fault::{WavFault, WavKind};
@@ -235,6 +236,7 @@ impl WavHead {
     pub fn read<S: Source>(input: &mut S, limit: u64) -> Result<WavHead, WavFault>
         ensures told { (bytes : List ℕ) → S.left input.old ≡ Some bytes → MatchResult result
             (λ head. HeadRead bytes limit head (S.left input.new)) (IsStopped bytes limit) }
+        ensures exact { (bytes : List ℕ) → S.left input.old ≡ Some bytes → result ≢ Err WavFault.ReadFault → ReadsExactly bytes limit result }
         ensures profile { IfOk result (λ head. IsOfProfile head) }
         ensures within { IfOk result (λ head. head.taken ≤ limit) }
         ensures failed { IsErrOf result WavFault.ReadFault → Rose (S.faults input.old) (S.faults input.new) }

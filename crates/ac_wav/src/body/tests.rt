@@ -2,6 +2,7 @@ ghost use Rattle.std.specs.Prelude.{◌≡◌, ◌≤◌, ◌%◌};
 ghost use Rattle.ac_wav.specs.Form.{IsOfProfile};
 
 use super::*;
+use crate::law::wav_law;
 use ac_io::{MemSource, StdSource};
 use std::test::Fail;
 
@@ -56,6 +57,41 @@ fn samples_of_24_bits_in_coding_order(rt: HostRuntime) {
     assert_eq!(rt; body.samples(&mut source, &mut out), Ok(1));
     for (c, sample) in [-8388608, 1, 8388607, -1, 4, 2].iter().enumerate() {
         assert!(rt; c < 6 && out[c][0] == *sample && out[c][1] == 0, "{c}");
+    }
+}
+
+#[test]
+fn extremes_of_24_bits(rt: HostRuntime) {
+    let bytes = [
+        0, 0, 128, 1, 0, 128, 255, 255, 127, 254, 255, 127, 255, 255, 255, 0, 0, 0,
+    ];
+    let mut source = StdSource::new(bytes.as_slice());
+    let mut body = WavBody::new(&head(1, false, 24, Some(18)), 62);
+    let mut out = [[7; 1536]; 6];
+    assert_eq!(rt; body.samples(&mut source, &mut out), Ok(6));
+    assert!(rt; out[0][..7] == [-8388608, -8388607, 8388607, 8388606, -1, 0, 0]);
+}
+
+#[test]
+fn whole_wav_and_what_follows(rt: HostRuntime) {
+    wav_law();
+    // mono of 16 bits: five bytes of data, of which the last is no sample, and bytes that aren't looked at
+    let bytes = [
+        82, 73, 70, 70, 0, 0, 0, 0, 87, 65, 86, 69, 102, 109, 116, 32, 16, 0, 0, 0, 1, 0, 1, 0,
+        128, 187, 0, 0, 0, 119, 1, 0, 2, 0, 16, 0, 100, 97, 116, 97, 5, 0, 0, 0, 1, 0, 2, 0, 9, 0,
+        8, 8,
+    ];
+    let mut source = StdSource::new(bytes.as_slice());
+    let read = WavHead::read(&mut source, 49);
+    assert!(rt; read.is_ok());
+    if let Ok(head) = read {
+        let mut body = WavBody::new(&head, 49);
+        let mut out = [[7; 1536]; 6];
+        assert_eq!(rt; body.samples(&mut source, &mut out), Ok(2));
+        assert!(rt; out[0][..3] == [256, 512, 0]);
+        let mut rest = [0; 4];
+        assert_eq!(rt; ac_io::fill(&mut source, &mut rest), Ok(3));
+        assert!(rt; rest == [0, 8, 8, 0]);
     }
 }
 

@@ -180,6 +180,48 @@ fn heads_that_end_early(rt: HostRuntime) {
 }
 
 #[test]
+fn faults_before_the_next_chunk(rt: HostRuntime) {
+    // the first rule that fails is answered, whatever comes behind it
+    for (place, value, length, kind, at) in [
+        (20, 3, 36, WavKind::Unsupported(Field::Tag, 3), 20),
+        (22, 7, 40, WavKind::Unsupported(Field::Channels, 7), 22),
+        (32, 4, 44, WavKind::BadFmt(Field::Align), 32),
+        (20, 3, 35, WavKind::Short, 35),
+        (0, 0, 11, WavKind::Short, 11),
+        (0, 0, 12, WavKind::NotRiff, 0),
+        (12, 0x61746164, 20, WavKind::NoFmt, 12),
+        (12, 0x61746164, 19, WavKind::Short, 19),
+    ] {
+        let mut bytes = PLAIN;
+        write(
+            &mut bytes,
+            (place, value, if place == 0 || place == 12 { 4 } else { 2 }),
+        );
+        let mut source = StdSource::new(&bytes[..length]);
+        assert!(rt;
+            WavHead::read(&mut source, 1000) == Err(WavFault::Bad(kind, at)),
+            "{place} {value} {length}"
+        );
+    }
+}
+
+#[test]
+fn limits_of_refusals(rt: HostRuntime) {
+    // a refusal that needs no byte past the limit, and one that needs the next one
+    for limit in 35..38u64 {
+        let mut bytes = PLAIN;
+        write(&mut bytes, (20, 3, 2));
+        let mut source = StdSource::new(bytes.as_slice());
+        let fault = if limit < 36 {
+            WavFault::TooLong
+        } else {
+            WavFault::Bad(WavKind::Unsupported(Field::Tag, 3), 20)
+        };
+        assert!(rt; WavHead::read(&mut source, limit) == Err(fault), "{limit}");
+    }
+}
+
+#[test]
 fn limits_of_heads(rt: HostRuntime) {
     for limit in 0..46u64 {
         let mut source = StdSource::new(PLAIN.as_slice());
@@ -203,6 +245,23 @@ fn extensible_layouts(rt: HostRuntime) {
         (0x10F, 5, 5, true, [0, 2, 1, 4, 3, 0]),
         (0x60F, 6, 7, true, [0, 2, 1, 4, 5, 3]),
         (0, 6, 7, true, [0, 2, 1, 4, 5, 3]),
+        (0xC, 2, 1, true, [0, 1, 0, 0, 0, 0]),
+        (0x9, 2, 1, true, [0, 1, 0, 0, 0, 0]),
+        (0x3, 2, 2, false, [0, 1, 0, 0, 0, 0]),
+        (0, 2, 2, false, [0, 1, 0, 0, 0, 0]),
+        (0x7, 3, 3, false, [0, 2, 1, 0, 0, 0]),
+        (0, 3, 3, false, [0, 2, 1, 0, 0, 0]),
+        (0xF, 4, 3, true, [0, 2, 1, 3, 0, 0]),
+        (0x103, 3, 4, false, [0, 1, 2, 0, 0, 0]),
+        (0x10B, 4, 4, true, [0, 1, 3, 2, 0, 0]),
+        (0x107, 4, 5, false, [0, 2, 1, 3, 0, 0]),
+        (0x33, 4, 6, false, [0, 1, 2, 3, 0, 0]),
+        (0, 4, 6, false, [0, 1, 2, 3, 0, 0]),
+        (0x3B, 5, 6, true, [0, 1, 3, 4, 2, 0]),
+        (0x37, 5, 7, false, [0, 2, 1, 3, 4, 0]),
+        (0x607, 5, 7, false, [0, 2, 1, 3, 4, 0]),
+        (0, 5, 7, false, [0, 2, 1, 3, 4, 0]),
+        (0x3F, 6, 7, true, [0, 2, 1, 4, 5, 3]),
     ] {
         let mut bytes = WIDE;
         write(&mut bytes, (22, u32::from(channels), 2));

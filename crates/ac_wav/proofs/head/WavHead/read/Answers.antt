@@ -1,7 +1,9 @@
+use Rattle.std.specs.Prelude.{None}
 use Rattle.std.proofs.lemmas.Result.{err_from_is_err_and}
 use Rattle.ac_wav.proofs.Chunks.{open_first}
 use Rattle.ac_wav.proofs.Fine.{fine}
 use Rattle.ac_wav.proofs.Stops.{head_read}
+use Rattle.ac_wav.proofs.Exact.{read_exactly}
 use Rattle.ac_wav.proofs.head.WavHead.read.Goals as goal
 
 pub returns-in_err-samples-clause-told : goal.returns-in_err-samples-clause-told
@@ -19,3 +21,20 @@ returns-clause-told g c = λ bytes e.
     let r = c.in_ok-read_riff.ensures.told bytes e in
     let f = c.in_ok-found.ensures.told bytes (open_first bytes r.0) r.1 in
     head_read bytes c.args.limit c.in_ok-found.found c.in_ok-samples.samples _ _ c.head.result f (c.in_ok-samples.ensures.told bytes f.chunk f.formatted f.at) c.in_ok-samples.ensures.within c.head.ensures.says
+
+pub returns-clause-exact : goal.returns-clause-exact
+returns-clause-exact g c = λ bytes e nf. read_exactly bytes c.args.limit _ _ (returns-clause-told g c bytes e) nf
+
+pub returns-in_err-samples-clause-exact : goal.returns-in_err-samples-clause-exact
+returns-in_err-samples-clause-exact g c = λ bytes e nf. read_exactly bytes c.args.limit _ _ (returns-in_err-samples-clause-told g c bytes e) nf
+
+pub returns-in_err-read_riff-clause-exact : goal.returns-in_err-read_riff-clause-exact
+returns-in_err-read_riff-clause-exact g c = λ bytes e nf.
+    let p = err_from_is_err_and c.from_residual.result c.from_residual.ensures.1 in
+    read_exactly bytes c.args.limit None _ (rw (p.1, p.2) (c.in_err-read_riff.ensures.told bytes e)) nf
+
+pub returns-in_err-found-clause-exact : goal.returns-in_err-found-clause-exact
+returns-in_err-found-clause-exact g c = λ bytes e nf.
+    let p = err_from_is_err_and c.from_residual-in_err-found.result c.from_residual-in_err-found.ensures.1 in
+    let r = c.in_ok-read_riff.ensures.told bytes e in
+    read_exactly bytes c.args.limit None _ (rw (p.1, p.2) (c.in_err-found.ensures.told bytes (open_first bytes r.0) r.1)) nf

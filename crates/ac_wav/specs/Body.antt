@@ -1,0 +1,32 @@
+-- What a reader of samples keeps, and where it stands.
+use Rattle.std.specs.Prelude.{◌≡◌, ℕ, ◌+◌, ◌*◌, Bool, false, Option, None}
+use Rattle.ac_wav.specs.declared.body.WavBody.{WavBody}
+use Rattle.ac_wav.specs.declared.fault.WavFault.{WavFault}
+use Rattle.ac_wav.specs.declared.head.WavHead.{WavHead}
+use Rattle.ac_wav.specs.Samples.{align_of}
+
+-- the head of the WAV
+abbrev pub head_in : WavBody → WavHead
+head_in body = body.head
+
+-- the most bytes that are taken from the input
+abbrev pub limit_of : WavBody → ℕ
+limit_of body = body.limit
+
+-- the number of bytes that were taken from the input, those before the data included
+abbrev pub taken_by : WavBody → ℕ
+taken_by body = body.taken
+
+-- the end of the data was answered
+abbrev pub is_ended : WavBody → Bool
+is_ended body = body.ended
+
+-- the refusal that was answered, and is answered from then on
+abbrev pub kept_by : WavBody → Option WavFault
+kept_by body = body.kept
+
+-- the body stands behind the first n samples of each channel, and answered neither the end nor a refusal
+pub record IsBehind (body : WavBody) (n : ℕ) : Type 0 where
+  pub taken_is : taken_by body ≡ (head_in body).taken + n * align_of (head_in body)
+  pub going : is_ended body ≡ false
+  pub unrefused : kept_by body ≡ None
