@@ -1,5 +1,5 @@
 -- What a run that did all leaves is told by the words, the input and what the sinks held.
-use Rattle.std.proofs.Common.{◌≡◌, ℕ, ◌+◌, ◌≤◌, List, ◌++◌, length, Option, Some, ap, sym, subst, ◌∙◌, length-append}
+use Rattle.std.proofs.Common.{◌≡◌, ℕ, ◌+◌, List, ◌++◌, length, Option, Some, ap, sym, subst, ◌∙◌, length-append}
 use Rattle.ac_base.specs.Rates.{IsRate}
 use Rattle.ac_frame.specs.Plain.{AreBytes}
 use Rattle.ac_wav.specs.declared.head.WavHead.{WavHead}
@@ -53,8 +53,8 @@ done_once ws bytes h left now out said again lines bs cs p q =
       p.left ∙ (ap (λ (w : WavHead). Some (behind w bytes)) (sym head) ∙ sym q.left),
       told ∙ (ap (λ s. h.out ++ s) same ∙ sym told_again),
       report
-      ∙ (ap (λ r. h.said ++ frame_lines r sound k ++ status_line Ok) (sym rate)
-      ∙ (ap (λ (w : WavHead). h.said ++ frame_lines q.rate (sound_of w bytes) (frames_of (sound_of w bytes)) ++ status_line Ok) (sym head) ∙ sym report_again)),
+          ∙ (ap (λ r. h.said ++ frame_lines r sound k ++ status_line Ok) (sym rate)
+          ∙ (ap (λ (w : WavHead). h.said ++ frame_lines q.rate (sound_of w bytes) (frames_of (sound_of w bytes)) ++ status_line Ok) (sym head) ∙ sym report_again)),
     )
 
 pub done_size : (ws : List Text) (bytes : List ℕ) (h : Held) (left said : Option (List ℕ)) (out : List ℕ) (p : IsDone ws bytes h left (Some out) said)

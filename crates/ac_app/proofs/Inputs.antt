@@ -1,13 +1,14 @@
 -- Which inputs are encoded, and why others are refused.
 use Rattle.std.proofs.Common.{◌≡◌, ◌⊎◌, ℕ, ◌≤◌, Bool, true, false, List, take, Option, subst, refl, sym, ap, ◌∙◌, arith, lit≤, inl, inr}
+use Rattle.std.specs.Prelude.{◌==◌, if◌then◌else◌}
 use Rattle.std.proofs.lemmas.Bool.{cases_eq, cases_lt}
 use Rattle.ac_wav.specs.declared.fault.WavKind.{WavKind}
 use Rattle.ac_wav.specs.declared.fault.WavKind.TheVariants.{Short, NoData, NotYet}
 use Rattle.ac_wav.specs.declared.fault.WavFault.{WavFault}
 use Rattle.ac_wav.specs.declared.fault.WavFault.TheVariants as wav_faults
 use Rattle.ac_wav.specs.declared.head.WavHead.{WavHead}
-use Rattle.ac_wav.specs.Format.{fscod_of}
-use Rattle.ac_wav.specs.Form.{IsHead}
+use Rattle.ac_wav.specs.Format.{fscod_of, format_of}
+use Rattle.ac_wav.specs.Form.{IsHead, body_of}
 use Rattle.ac_wav.specs.Refusal as ends
 use Rattle.ac_wav.specs.Refusal.{HeadRead}
 use Rattle.ac_wav.specs.Whole.{EndsWithin}
@@ -29,24 +30,19 @@ one_input bytes head other i j = heads.one_head bytes head other (begins bytes h
 pub no_other : (bytes : List ℕ) (head : WavHead) → IsHead bytes head → IsMono head → HasNoOther bytes
 no_other bytes head h mono other o = o.other (subst IsMono (heads.one_head bytes head other h o.begins) mono)
 
--- a list that is refused before its data has no head
-pub refused_no_other : (bytes : List ℕ) (kind : WavKind) (place : ℕ) → ((head : WavHead) → IsHead bytes head → ⊥) → HasNoOther bytes
-refused_no_other bytes kind place none head o = none head o.begins
-
 -- fscod of a head that is accepted
+small : (first second : Bool) → (if first then 0 else (if second then 1 else 2)) ≤ 2
+small true second = lit≤ tt
+small false true = lit≤ tt
+small false false = lit≤ tt
+
 fscod_small : (rate : ℕ) → fscod_of rate ≤ 2
-fscod_small rate = elim (cases_eq rate 48000) [
-  | inl e ↦ subst (λ (r : ℕ). fscod_of r ≤ 2) (sym e) (lit≤ tt)
-  | inr other ↦ elim (cases_eq rate 44100) [
-    | inl e ↦ subst (λ (r : ℕ). fscod_of r ≤ 2) (sym e) (lit≤ tt)
-    | inr neither ↦ search
-  ]
-]
+fscod_small rate = small (rate == 48000) (rate == 44100)
 
 pub sampling : (bytes : List ℕ) (head : WavHead) → IsInput bytes head → head.fscod ≤ 2
 sampling bytes head i =
     let h = begins bytes head i in
-    subst (λ (n : ℕ). n ≤ 2) (sym (ap (λ (w : WavHead). w.fscod) h.says)) (fscod_small _)
+    subst (λ (n : ℕ). n ≤ 2) (sym (ap (λ (w : WavHead). w.fscod) h.says)) (fscod_small (format_of (body_of h.chunk)).rate)
 
 -- ---- never two of them
 

@@ -1,5 +1,5 @@
 -- What the sinks hold, where all of it is told, and what the frames of a sound leave.
-use Rattle.std.specs.Prelude.{◌≡◌, ℕ, ◌+◌, ◌*◌, ◌<◌, List, ◌++◌, take, drop, length, Option, Some, Result, Ok, Err, ℤ}
+use Rattle.std.specs.Prelude.{◌≡◌, ℕ, ◌+◌, ◌<◌, List, ◌++◌, take, length, Option, Some, Result, Ok, Err, ℤ}
 use Rattle.ac_base.specs.Sigma.{Lists}
 use Rattle.ac_enc.specs.Frame.{IsFrame}
 use Rattle.ac_app.specs.Lines.{frame_line}

@@ -39,7 +39,7 @@ fn write_frames<O: Sink, N: Sink>(
         fscod: gathered.fscod,
     };
     let count = frames_for(gathered.samples.len());
-    match frames(pace, count, gathered.samples.as_slice(), output, report) {
+    match frames(pace, count, &gathered.samples, output, report) {
         Ok(()) => Status::Ok,
         Err(Stop::Output) => Status::WriteFault,
         Err(Stop::Report) => Status::WriteFault,

@@ -1,5 +1,5 @@
 //! The samples of an input, all of them.
-ghost use Rattle.std.specs.Prelude.{◌≡◌, ℕ, ◌+◌, ◌-◌, ◌<◌, ◌≤◌, ◌^◌, List, length, Option, Some, MatchResult, IfOk, IsErrOf, true, Bool, ◌&&◌, not, ◌==◌};
+ghost use Rattle.std.specs.Prelude.{◌≡◌, ℕ, ◌+◌, ◌-◌, ◌<◌, ◌≤◌, ◌^◌, List, length, Option, Some, MatchResult, IfOk, OnOk, IsErrOf, true, ◌++◌, take};
 ghost use Rattle.ac_base.specs.Sigma.{Within};
 ghost use Rattle.ac_io.specs.Outside.{Rose};
 ghost use Rattle.ac_wav.specs.Form.{IsOfProfile};
@@ -58,6 +58,15 @@ fn is_mono(head: &WavHead) -> bool
     head.acmod == 1 && !head.lfe
 }
 
+/// Adds the first `n` samples of a row.
+fn add_front(samples: &mut Vec<i32>, row: &[i32; 1536], n: usize) -> Result<(), AllocError>
+    requires { n ≤ 1536 }
+    ensures added { OnOk result (samples.new.items ≡ samples.old.items ++ take n row.now) }
+    ensures count { OnOk result (length samples.new.items ≡ length samples.old.items + n) }
+{
+    samples.extend_from_slice(&row[..n])
+}
+
 /// All samples behind the head.
 fn gather<S: Source>(alloc: Global, head: &WavHead, input: &mut S) -> Result<Vec<i32>, Fault>
     requires profile { IsOfProfile head.now }
@@ -75,7 +84,7 @@ fn gather<S: Source>(alloc: Global, head: &WavHead, input: &mut S) -> Result<Vec
     let mut samples = Vec::new(alloc);
     loop {
         let n = body.samples(input, &mut rows)?;
-        samples.extend_from_slice(&rows[0][..n])?;
+        add_front(&mut samples, &rows[0], n)?;
         if n < 1536 {
             return Ok(samples);
         }

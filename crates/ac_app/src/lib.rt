@@ -13,8 +13,8 @@ mod top;
 pub use ac_io::{
     Failed, MemSink, MemSource, NullSink, Sink, Source, StdSink, StdSource, SureSource,
 };
-pub use ac_words::{Command, Couple, Names, Options, WordsFault, command, names};
 pub use ac_wav::{Field, WavKind};
+pub use ac_words::{Command, Couple, Names, Options, WordsFault, command, names};
 pub use law::{input_law, run_law, stream_law};
 pub use status::Status;
 pub use top::run;

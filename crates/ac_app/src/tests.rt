@@ -1,11 +1,15 @@
 //! The worked examples of the top call, over a source and sinks in memory.
-use crate::{MemSink, MemSource, Status, WavKind, run, run_law, stream_law, wav_law};
+use crate::{Field, MemSink, MemSource, Status, WavKind, input_law, run, run_law, stream_law};
 use std::alloc::{AllocError, Global};
 use std::test::Fail;
 
 /// The head of a mono WAV of 16 bits at 48 kHz without data.
 const EMPTY: [u8; 44] =
     *b"RIFF\x24\0\0\0WAVEfmt \x10\0\0\0\x01\0\x01\0\x80\xbb\0\0\0\x77\x01\0\x02\0\x10\0data\0\0\0\0";
+
+/// The head of a mono WAV of 24 bits at 48 kHz in the extensible form, with data to the end of the input.
+const WIDE: &[u8] =
+    b"RIFF\xff\xff\xff\xffWAVEfmt \x28\0\0\0\xfe\xff\x01\0\x80\xbb\0\0\x80\x32\x02\0\x03\0\x18\0\x16\0\x18\0\x04\0\0\0\x01\0\0\0\0\0\x10\0\x80\0\0\xaa\0\x38\x9b\x71data\xff\xff\xff\xff";
 
 /// What a run left.
 #[derive(Drop)]
@@ -59,6 +63,15 @@ fn left_by(
 
 fn encoded(alloc: Global, bytes: &[u8]) -> Result<Left, AllocError> {
     left_by(alloc, &words_of(alloc, "192")?, bytes, NONE)
+}
+
+/// Writes bytes over those from `at` on.
+fn write(bytes: &mut [u8], at: usize, new: &[u8]) {
+    for (place, byte) in new.iter().enumerate() {
+        if at + place < bytes.len() {
+            bytes[at + place] = *byte;
+        }
+    }
 }
 
 /// The head with this size of the data.
@@ -194,64 +207,202 @@ fn short_data(rt: HostRuntime) -> Result<(), Fail> {
     Ok(())
 }
 
+// A layout that isn't encoded yet is refused behind its head, before its data are looked at.
 #[test]
 fn stereo_not_yet(rt: HostRuntime) -> Result<(), Fail> {
+    input_law();
     let mut head = EMPTY;
-    head[22] = 2;
-    let bytes = with_zeros(rt.alloc(), &head, 9)?;
-    let left = encoded(rt.alloc(), &bytes)?;
-    assert!(rt;
-        refuses(
-            &left,
-            Status::BadWav(WavKind::NotYet, 0),
-            "status 2 bad wav notyet 0\n"
-        )
-    );
+    write(&mut head, 22, &[2]);
+    write(&mut head, 32, &[4]);
+    for bytes in [head.as_slice(), &with_zeros(rt.alloc(), &head, 9)?] {
+        let left = encoded(rt.alloc(), bytes)?;
+        assert!(rt;
+            refuses(
+                &left,
+                Status::BadWav(WavKind::NotYet, 44),
+                "status 2 bad wav notyet 44\n"
+            )
+        );
+    }
     Ok(())
 }
 
-// Each length below a whole head is short there.
+// Each length below a whole head ends inside it, or where a chunk could begin.
 #[test]
 fn every_cut_head(rt: HostRuntime) -> Result<(), Fail> {
-    wav_law();
     for cut in 0..44usize {
         let left = encoded(rt.alloc(), &EMPTY[..cut])?;
-        assert_eq!(rt; left.status, Status::BadWav(WavKind::Short, cut as u64));
+        let kind = if cut == 12 || cut == 36 {
+            WavKind::NoData
+        } else {
+            WavKind::Short
+        };
+        assert_eq!(rt; left.status, Status::BadWav(kind, cut as u64));
         assert!(rt; left.output.is_empty(), "at {cut}");
     }
     Ok(())
 }
 
-// A head that differs at one tested byte is no plain head; the bytes that aren't tested may be any.
+// The kind and the place of the first rule that fails, and their line.
 #[test]
-fn heads_of_other_forms(rt: HostRuntime) -> Result<(), Fail> {
-    for place in 0..40usize {
-        let mut head = head_of(2);
-        head[place] ^= 0x40;
-        let bytes = with_zeros(rt.alloc(), &head, 2)?;
-        let left = encoded(rt.alloc(), &bytes)?;
-        let is_free = matches!(place, 4..=7 | 28..=31);
-        let want = if is_free {
-            Status::Ok
-        } else {
-            Status::BadWav(WavKind::NotYet, 0)
-        };
-        assert_eq!(rt; left.status, want, "at {place}");
+fn refused_heads(rt: HostRuntime) -> Result<(), Fail> {
+    for (at, byte, kind, place, line) in [
+        (
+            0usize,
+            0x72u8,
+            WavKind::NotRiff,
+            0u64,
+            "status 2 bad wav notriff 0\n",
+        ),
+        (8, 0x77, WavKind::NotRiff, 8, "status 2 bad wav notriff 8\n"),
+        (12, 0x46, WavKind::NoFmt, 36, "status 2 bad wav nofmt 36\n"),
+        (
+            36,
+            0x44,
+            WavKind::NoData,
+            44,
+            "status 2 bad wav nodata 44\n",
+        ),
+        (
+            16,
+            14,
+            WavKind::BadFmt(Field::Size),
+            16,
+            "status 2 bad wav badfmt 16\n",
+        ),
+        (
+            20,
+            3,
+            WavKind::Unsupported(Field::Tag, 3),
+            20,
+            "status 2 bad wav unsupported 20\n",
+        ),
+        (
+            22,
+            7,
+            WavKind::Unsupported(Field::Channels, 7),
+            22,
+            "status 2 bad wav unsupported 22\n",
+        ),
+        (
+            25,
+            0,
+            WavKind::Unsupported(Field::Rate, 128),
+            24,
+            "status 2 bad wav unsupported 24\n",
+        ),
+        (
+            34,
+            8,
+            WavKind::Unsupported(Field::Bits, 8),
+            34,
+            "status 2 bad wav unsupported 34\n",
+        ),
+        (
+            32,
+            4,
+            WavKind::BadFmt(Field::Align),
+            32,
+            "status 2 bad wav badfmt 32\n",
+        ),
+        (40, 2, WavKind::Short, 44, "status 2 bad wav short 44\n"),
+    ] {
+        let mut head = EMPTY;
+        write(&mut head, at, &[byte]);
+        let left = encoded(rt.alloc(), &head)?;
+        assert!(rt;
+            refuses(&left, Status::BadWav(kind, place), line),
+            "at {at}"
+        );
     }
     Ok(())
 }
 
-// More than 2^26 bytes in all are stated.
+// Chunks of odd and even size before the data are passed over with their pad bytes; a chunk of odd size without one is short.
 #[test]
-fn data_that_are_too_long(rt: HostRuntime) -> Result<(), Fail> {
-    for (size, want) in [
-        (0x03ff_ffd4u32, Status::BadWav(WavKind::Short, 46)),
-        (0x03ff_ffd5, Status::BadWav(WavKind::NotYet, 0)),
-        (0xffff_ffff, Status::BadWav(WavKind::NotYet, 0)),
+fn chunks_are_passed_over(rt: HostRuntime) -> Result<(), Fail> {
+    let mut bytes = Vec::from_slice(rt.alloc(), &EMPTY[..12])?;
+    bytes.extend_from_slice(b"LIST\x03\0\0\0abc\0")?;
+    bytes.extend_from_slice(&EMPTY[12..36])?;
+    bytes.extend_from_slice(b"fact\x02\0\0\0xy")?;
+    bytes.extend_from_slice(&EMPTY[36..])?;
+    assert_eq!(rt; encoded(rt.alloc(), &bytes)?.status, Status::Ok);
+    for (cut, kind) in [
+        (23, WavKind::Short),
+        (24, WavKind::NoData),
+        (31, WavKind::Short),
+        (57, WavKind::Short),
     ] {
-        let bytes = with_zeros(rt.alloc(), &head_of(size), 2)?;
-        assert_eq!(rt; encoded(rt.alloc(), &bytes)?.status, want, "at {size}");
+        let left = encoded(rt.alloc(), &bytes[..cut])?;
+        assert_eq!(rt; left.status, Status::BadWav(kind, cut as u64), "at {cut}");
     }
+    Ok(())
+}
+
+// The same samples in the plain form and in 24 bits of the extensible form are one stream.
+#[test]
+fn forms_of_one_sound(rt: HostRuntime) -> Result<(), Fail> {
+    let mut plain = Vec::from_slice(rt.alloc(), &head_of(6000))?;
+    let mut wide = Vec::from_slice(rt.alloc(), WIDE)?;
+    for place in 0..3000u32 {
+        let sample = (place * 7919 % 65536) as u16;
+        plain.extend_from_slice(&sample.to_le_bytes())?;
+        wide.push(0)?;
+        wide.extend_from_slice(&sample.to_le_bytes())?;
+    }
+    let left = encoded(rt.alloc(), &plain)?;
+    let again = encoded(rt.alloc(), &wide)?;
+    assert_eq!(rt; left.status, Status::Ok);
+    assert_eq!(rt; left.output.len(), 3 * 768);
+    assert_eq!(rt; again.status, Status::Ok);
+    assert!(rt; left.output.as_slice() == again.output.as_slice());
+    assert!(rt; left.report.as_slice() == again.report.as_slice());
+    Ok(())
+}
+
+// At 44.1 kHz and 192 kbit/s frames 0 and 1 have 417 and 418 words, and the codes 20 and 21; at 32 kHz each has 576.
+#[test]
+fn alternating_frame_sizes(rt: HostRuntime) -> Result<(), Fail> {
+    let mut bytes = silence(rt.alloc(), 2000)?;
+    write(&mut bytes, 24, &[0x44, 0xac]);
+    let left = encoded(rt.alloc(), &bytes)?;
+    assert_eq!(rt; left.status, Status::Ok);
+    assert!(rt;
+        left.report.as_slice()
+            == "frame 0 size 834 base\nframe 1 size 836 base\nstatus 0 ok\n".as_bytes()
+    );
+    assert_eq!(rt; left.output.len(), 834 + 836);
+    assert_eq!(rt; left.output[4], 0x40 + 20);
+    assert!(rt; left.output[834..836] == [0x0b, 0x77]);
+    assert_eq!(rt; left.output[834 + 4], 0x40 + 21);
+    write(&mut bytes, 24, &[0x00, 0x7d]);
+    let left = encoded(rt.alloc(), &bytes)?;
+    assert_eq!(rt; left.output.len(), 2 * 1152);
+    assert_eq!(rt; left.output[4], 0x80 + 20);
+    Ok(())
+}
+
+// A byte past the limit of 2^26 is refused only where it is there; else the input is short.
+#[test]
+fn too_long(rt: HostRuntime) -> Result<(), Fail> {
+    let head = head_of((1 << 26) - 43);
+    let left = encoded(rt.alloc(), &with_zeros(rt.alloc(), &head, 2)?)?;
+    assert_eq!(rt; left.status, Status::BadWav(WavKind::Short, 46));
+    let mut bytes = Vec::from_slice(rt.alloc(), &EMPTY[..12])?;
+    bytes.extend_from_slice(b"LIST\xff\xff\xff\x7f")?;
+    bytes.resize(1 << 26, 0)?;
+    let left = encoded(rt.alloc(), &bytes)?;
+    assert_eq!(rt; left.status, Status::BadWav(WavKind::Short, 1 << 26));
+    bytes.push(0)?;
+    let left = encoded(rt.alloc(), &bytes)?;
+    let limit = 1 << 26;
+    assert!(rt;
+        refuses(
+            &left,
+            Status::TooLong { limit },
+            "status 11 too long 67108864\n"
+        )
+    );
     Ok(())
 }
 
@@ -307,6 +458,7 @@ fn codes(rt: HostRuntime) {
         (Status::ReadFault, 6),
         (Status::WriteFault, 7),
         (Status::NoMemory, 9),
+        (Status::TooLong { limit: 7 }, 11),
     ] {
         assert_eq!(rt; status.code(), code);
     }

@@ -1,4 +1,4 @@
-use Rattle.std.proofs.Common.{◌≡◌, ◌≤◌, ◌^◌, ℕ}
+use Rattle.std.proofs.Common.{◌≡◌, ◌≤◌, ◌^◌}
 use Rattle.ac_base.specs.Sigma.{Within}
 use Rattle.ac_app.specs.Sound.{Sound, AreSamples}
 use Rattle.ac_app.specs.World.{Held, Holds, Frames, IsLast}
