@@ -1,10 +1,12 @@
 -- The sizes of frames.
-use Rattle.std.proofs.Common.{◌≡◌, ℕ, zero, suc, ◌+◌, ◌-◌, ◌*◌, ◌/◌, ◌≤◌, Bool, true, false, arith}
+use Rattle.std.proofs.Common.{◌≡◌, ℕ, zero, suc, ◌+◌, ◌-◌, ◌*◌, ◌/◌, ◌%◌, ◌≤◌, ◌⊎◌, inl, inr, Bool, true, false, refl, ap, arith}
 use Rattle.std.specs.Prelude.{nat_eq, if◌then◌else◌}
+use Rattle.std.proofs.lemmas.Bool.{cases_lt, eqb-true}
+use Rattle.std.proofs.lemmas.Bool.Decides.{eqb_tells}
 use Rattle.ac_base.specs.Rates.{IsRate}
-use Rattle.ac_base.specs.Sizes.{frame_words_of, words_before}
+use Rattle.ac_base.specs.Sizes.{frame_words_of, words_before, table_words}
 use Rattle.ac_base.proofs.RateTable.{rate_least, rate_most}
-use Rattle.ac_enc.specs.Frame.{words_so_far}
+use Rattle.ac_enc.specs.Frame.{size_code, words_so_far}
 
 -- one frame more
 before_more : (rate n : ℕ) → 320 * rate * (n + 1) ≡ 320 * rate * n + 320 * rate
@@ -44,3 +46,46 @@ words_fit rate fscod i is =
     let most = rate_most rate is in
     chosen (nat_eq fscod 0) (nat_eq fscod 1) (2 * rate) (words_before rate (i + 1) - words_before rate i) (3 * rate)
     (omega arith, omega arith) (alternating rate i least most) (omega arith, omega arith)
+
+-- a step of a floor is the floor of the step, or one more
+stepped : (a b : ℕ) → ((a + b) / 147 - a / 147 ≡ b / 147) ⊎ ((a + b) / 147 - a / 147 ≡ b / 147 + 1)
+stepped a b =
+    elim (cases_lt (a % 147 + b % 147) 147) [
+      | inl h ↦ inl (omega (arith, h))
+      | inr h ↦ inr (omega (arith, h))
+    ]
+
+alternates : (rate n : ℕ) → (words_before rate (n + 1) - words_before rate n ≡ 320 * rate / 147) ⊎ (words_before rate (n + 1) - words_before rate n ≡ 320 * rate / 147 + 1)
+alternates rate n = rw (before_more rate n) (stepped (320 * rate * n) (320 * rate))
+
+-- two choices that differ at the second alone
+one_more : (a b : Bool) (x y t z : ℕ) (P : Type 0) → (b ≡ true → P) → (y ≡ t) ⊎ (y ≡ t + 1)
+    → let chosen = if a then x else if b then y else z in
+    let table = if a then x else if b then t else z in
+    (chosen ≡ table) ⊎ (P × (chosen ≡ table + 1))
+one_more true b x y t z P p h = inl refl
+one_more false true x y t z P p h =
+    elim h [
+      | inl e ↦ inl e
+      | inr e ↦ inr (p refl, e)
+    ]
+one_more false false x y t z P p h = inl refl
+
+words_listed : (rate fscod i : ℕ) → (frame_words_of rate fscod i ≡ table_words rate fscod) ⊎ ((fscod ≡ 1) × (frame_words_of rate fscod i ≡ table_words rate fscod + 1))
+words_listed rate fscod i =
+    one_more (nat_eq fscod 0) (nat_eq fscod 1) (2 * rate) (words_before rate (i + 1) - words_before rate i) (320 * rate / 147) (3 * rate) (fscod ≡ 1) (eqb-true fscod 1) (alternates rate i)
+
+pub listed : (rate fscod i code : ℕ) → let words = frame_words_of rate fscod i in
+    let table = table_words rate fscod in
+    let frmsizecod = size_code rate fscod i code in
+    ((words ≡ table) × (frmsizecod ≡ 2 * code)) ⊎ ((fscod ≡ 1) × (words ≡ table + 1) × (frmsizecod ≡ 2 * code + 1))
+listed rate fscod i code =
+    let chosen = λ (b : Bool). if b then 2 * code else 2 * code + 1 in
+    elim (eqb_tells (frame_words_of rate fscod i) (table_words rate fscod)) [
+      | inl h ↦ inl (h.1, ap chosen h.0)
+      | inr h ↦
+          elim (words_listed rate fscod i) [
+            | inl e ↦ absurd (h.1 e)
+            | inr e ↦ inr (e.0, e.1, ap chosen h.0)
+          ]
+    ]

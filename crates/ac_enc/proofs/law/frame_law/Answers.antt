@@ -1,7 +1,7 @@
 use Rattle.std.proofs.Common.{sym}
 use Rattle.ac_enc.proofs.Frames.{size, front, whole, one}
 use Rattle.ac_enc.proofs.Places.{frame_same}
-use Rattle.ac_enc.proofs.Sizes.{kept}
+use Rattle.ac_enc.proofs.Sizes.{kept, listed}
 use Rattle.ac_enc.proofs.law.frame_law.Goals as goal
 
 pub returns-clause-size : goal.returns-clause-size
@@ -21,3 +21,6 @@ returns-clause-told c = λ rate fscod i x y frame same. (frame_same rate fscod i
 
 pub returns-clause-kept : goal.returns-clause-kept
 returns-clause-kept c = kept
+
+pub returns-clause-listed : goal.returns-clause-listed
+returns-clause-listed c = listed
