@@ -1,15 +1,15 @@
 -- The WAV as a whole, and what its first bytes tell of it.
 use Rattle.std.proofs.Common.{◌≡◌, ◌⊎◌, ℕ, ◌+◌, ◌-◌, ◌*◌, ◌≤◌, ◌<◌, List, ◌++◌, length, take, drop, Option, None, Some, inl, inr, refl, sym, ap, subst, ◌∙◌, arith, length-take}
-use Rattle.std.specs.Prelude.{ℤ, min}
+use Rattle.std.specs.Prelude.{ℤ}
 use Rattle.std.specs.List.{concat}
 use Rattle.std.proofs.lemmas.Bool.{cases_lt}
 use Rattle.std.proofs.lemmas.List.{take-take, take_all}
 use Rattle.ac_wav.specs.declared.fault.WavKind.{WavKind}
 use Rattle.ac_wav.specs.declared.fault.WavKind.TheVariants.{Short, NotRiff, NoFmt, NoData, BadFmt, Unsupported, NotYet}
-use Rattle.ac_wav.specs.declared.fault.WavFault.TheVariants.{Bad, ReadFault, TooLong}
+use Rattle.ac_wav.specs.declared.fault.WavFault.TheVariants.{Bad, TooLong}
 use Rattle.ac_wav.specs.declared.head.WavHead.{WavHead}
 use Rattle.ac_wav.specs.Format.{format_of}
-use Rattle.ac_wav.specs.Form.{size_of, body_of, IsRiff, IsOpen, IsFormatted, IsDataAt, IsHead, head_of, stated, IsWav}
+use Rattle.ac_wav.specs.Form.{body_of, IsRiff, IsOpen, IsFormatted, IsDataAt, IsHead, head_of, stated, IsWav}
 use Rattle.ac_wav.specs.Refusal.{Reaches, IsNoRiff, IsFaulty, Refuses, IsTooLong, IsStopped}
 use Rattle.ac_wav.specs.Samples.{align_of, data_length, part_of, frame_bytes, SamplesRead, IsUnsampled}
 use Rattle.ac_wav.specs.Whole.{end_of, behind, HasCutData, RefusesWav, RunsOn, NeedsMore, EndsWithin, RefusedWithin}
