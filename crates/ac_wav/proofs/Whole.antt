@@ -1,16 +1,17 @@
 -- The WAV as a whole, and what its first bytes tell of it.
 use Rattle.std.proofs.Common.{◌≡◌, ◌⊎◌, ℕ, ◌+◌, ◌-◌, ◌*◌, ◌≤◌, ◌<◌, List, ◌++◌, length, take, drop, Option, None, Some, inl, inr, refl, sym, ap, subst, ◌∙◌, arith, length-take}
-use Rattle.std.specs.Prelude.{ℤ, min}
+use Rattle.std.specs.Prelude.{ℤ}
 use Rattle.std.specs.List.{concat}
 use Rattle.std.proofs.lemmas.Bool.{cases_lt}
 use Rattle.std.proofs.lemmas.List.{take-take, take_all}
 use Rattle.ac_wav.specs.declared.fault.WavKind.{WavKind}
 use Rattle.ac_wav.specs.declared.fault.WavKind.TheVariants.{Short, NotRiff, NoFmt, NoData, BadFmt, Unsupported, NotYet}
-use Rattle.ac_wav.specs.declared.fault.WavFault.TheVariants.{Bad, ReadFault, TooLong}
+use Rattle.ac_wav.specs.declared.fault.WavFault.TheVariants.{Bad, TooLong}
 use Rattle.ac_wav.specs.declared.head.WavHead.{WavHead}
 use Rattle.ac_wav.specs.Format.{format_of}
-use Rattle.ac_wav.specs.Form.{size_of, body_of, IsRiff, IsOpen, IsFormatted, IsDataAt, IsHead, head_of, stated, IsWav}
-use Rattle.ac_wav.specs.Refusal.{Reaches, IsNoRiff, IsFaulty, Refuses, IsTooLong, IsStopped}
+use Rattle.ac_wav.specs.Form.{body_of, IsRiff, IsOpen, IsFormatted, IsDataAt, IsHead, head_of, stated, IsWav}
+use Rattle.ac_wav.specs.Refusal.{Reaches, IsNoRiff, IsFaulty, Refuses, IsTooLong, IsStopped, HeadRead}
+use Rattle.ac_wav.specs.Pieces.{IsAt}
 use Rattle.ac_wav.specs.Samples.{align_of, data_length, part_of, frame_bytes, SamplesRead, IsUnsampled}
 use Rattle.ac_wav.specs.Whole.{end_of, behind, HasCutData, RefusesWav, RunsOn, NeedsMore, EndsWithin, RefusedWithin}
 use Rattle.ac_wav.proofs.Chunks.{from_cut, name_cut, size_cut, length_cut, within_cut, open_least, start_least, formatted_cut}
@@ -272,6 +273,10 @@ stopped_needs bytes limit (more, inr r) = (more, inr (inl r))
 -- a head that is refused is refused within the limit
 pub stopped_refused : (bytes : List ℕ) (limit : ℕ) (kind : WavKind) (place : ℕ) → IsStopped bytes limit (Bad kind place) → RefusedWithin bytes kind place limit
 stopped_refused bytes limit kind place r = (inl r.0, inl r.1)
+
+-- behind a head that was read stands the first byte of its data
+pub read_at : (bytes : List ℕ) (limit : ℕ) (head : WavHead) (left : Option (List ℕ)) → HeadRead bytes limit head left → IsAt bytes head.taken left
+read_at bytes limit head left r = record { within = taken_within bytes head r.is; left_is = r.left_is }
 
 -- ---- samples that weren't read
 

@@ -1,5 +1,5 @@
 -- The WAV as a whole: its head and all its data, or why it is refused, and what is known of it from the bytes up to a limit.
-use Rattle.std.specs.Prelude.{◌≡◌, ℕ, ◌+◌, ◌≤◌, ◌<◌, ◌⊎◌, List, length, take, drop, Option, None}
+use Rattle.std.specs.Prelude.{◌≡◌, ℕ, ◌+◌, ◌≤◌, ◌<◌, ◌⊎◌, List, length, take, drop, None}
 use Rattle.ac_wav.specs.declared.fault.WavKind.{WavKind}
 use Rattle.ac_wav.specs.declared.fault.WavKind.TheVariants.{Short, NoData}
 use Rattle.ac_wav.specs.declared.head.WavHead.{WavHead}

@@ -79,6 +79,7 @@ fn read_samples<S: Source>(
     requires standing { IsStanding head.now taken }
     requires room { taken ≤ limit }
     ensures most { IfOk result (λ piece. piece.samples ≤ 1536) }
+    ensures moves { IfOk result (λ piece. piece.samples ≤ piece.bytes) }
     ensures full { IfOk result (λ piece. piece.samples ≡ 1536 → piece.bytes ≡ 1536 * align_of head.now) }
     ensures within { IfOk result (λ piece. taken + piece.bytes ≤ limit) }
     ensures stands { IfOk result (λ piece. IsStanding head.now (taken + piece.bytes)) }

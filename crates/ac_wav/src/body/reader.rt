@@ -60,6 +60,7 @@ impl WavBody {
             (IsUnsampled bytes (head_in self.old) (taken_by self.old) (limit_of self.old)) }
         ensures exact { (bytes : List ℕ) («from» : ℕ) → IsAt bytes (taken_by self.old) (S.left input.old) → IsBehind self.old «from» → result ≢ Err WavFault.ReadFault
             → StopsExactly bytes (head_in self.old) (taken_by self.old) (limit_of self.old) result }
+        ensures moves { IfOk result (λ n. taken_by self.old + n ≤ taken_by self.new) }
         ensures next { («from» : ℕ) → IsBehind self.old «from» → IfOk result (λ n. n ≡ 1536 → IsBehind self.new («from» + 1536)) }
         ensures ends { kept_by self.old ≡ None → IfOk result (λ n. (kept_by self.new ≡ None) × (is_ended self.new ≡ (is_ended self.old || nat_lt n 1536))) }
         ensures keeps { IfErr result (λ fault. kept_by self.new ≡ Some fault) }
