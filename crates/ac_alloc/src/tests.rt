@@ -390,6 +390,14 @@ fn masks_and_baps_of_the_running_form(rt: HostRuntime) {
     allocation_laws();
 }
 
+// As the encoder's frames carry them in block 0.
+#[test]
+fn codes_of_the_encoder(rt: HostRuntime) {
+    for fscod in 0..3u8 {
+        assert!(rt; Params::encoder(fscod) == params(&rt, [fscod, 2, 1, 1, 3, 7, 4, 0, 0]));
+    }
+}
+
 #[test]
 fn lfe_masks(rt: HostRuntime) {
     let span = span_at(&rt, 60, None, 2);
