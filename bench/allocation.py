@@ -44,7 +44,7 @@ SLOW_GAIN = [0x540, 0x4D8, 0x478, 0x410]
 KNEE = [0, 0x700, 0x900, 0xB00]
 FLOOR = [0x2F0, 0x2B0, 0x270, 0x230, 0x1F0, 0x170, 0x0F0, -2048]
 
-ENCODER = dict(sdcycod=2, fdcycod=1, sgaincod=1, dbpbcod=2, floorcod=7, fgaincod=4, cplfleak=0, cplsleak=0)
+ENCODER = dict(sdcycod=2, fdcycod=1, sgaincod=1, dbpbcod=3, floorcod=7, fgaincod=4, cplfleak=0, cplsleak=0)
 
 
 def lowcomp(a, b0, b1, band):

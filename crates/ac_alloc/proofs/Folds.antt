@@ -1,13 +1,14 @@
 -- Bounds of folded integrate.
 use Rattle.std.proofs.Common.{◌≡◌, ℕ, zero, suc, ◌+◌, ◌*◌, ◌/◌, ◌-◌, ◌<◌, ◌≤◌, min, refl, arith, slice_index, add-one, ap, ◌∙◌, sym}
 use Rattle.std.specs.Int.{abs_diff}
-use Rattle.std.proofs.Common.{Bool, true, false, List, subst, inl, inr}
+use Rattle.std.proofs.Common.{Bool, true, false, List, take, get_or-take, subst, inl, inr}
 use Rattle.std.specs.Prelude.{if◌then◌else◌, nat_lt, ◌&&◌}
-use Rattle.std.proofs.lemmas.Bool.{cases_eq}
+use Rattle.std.proofs.lemmas.Bool.{cases_eq, cases_lt}
+use Rattle.std.proofs.lemmas.List.{get_or_past, length-take}
 use Rattle.std.proofs.lemmas.Bool.Decides.{nat_tests}
 use Rattle.ac_alloc.specs.Integration.{logadd, folded, bndpsd, psd, first_bin, last_bin}
-use Rattle.ac_base.specs.Allocation.{bndtab_list}
-use Rattle.ac_base.proofs.AllocationTables.{latab_small, starts_past}
+use Rattle.ac_base.specs.Allocation.{bndtab_list, masktab_list}
+use Rattle.ac_base.proofs.AllocationTables.{latab_small, starts_past, starts_rise, band_ends_after}
 
 pub logadd_bound : (a b m : ℕ) → a ≤ m → b ≤ m → logadd a b ≤ m + 64
 unfolding logadd
@@ -56,4 +57,27 @@ bndpsd_past start end exps b l m =
     elim (cases_eq b 50) [
       | inl e ↦ subst (λ n. bndpsd start end exps n ≡ 0) (sym e) (bndpsd_after start end exps 50 l)
       | inr n ↦ let z = starts_past (b + 1) (omega arith) in bndpsd_before start end exps b (omega arith)
+    ]
+
+-- bands behind that of the last bin have no bin
+pub bndpsd_behind : (start end : ℕ) (exps : List ℕ) (b : ℕ) → 0 < end → end ≤ 253 → slice_index masktab_list (end - 1) + 1 ≤ b → bndpsd start end exps b ≡ 0
+bndpsd_behind start end exps b some l m =
+    elim (cases_lt b 50) [
+      | inl h ↦ bndpsd_after start end exps b (omega (arith, band_ends_after (end - 1) (omega arith), starts_rise (slice_index masktab_list (end - 1) + 1) b m (omega arith)))
+      | inr h ↦ bndpsd_past start end exps b l (omega arith)
+    ]
+
+-- so the densities of a channel's bands alone tell them all
+pub bndpsd_alone : (start end to : ℕ) (exps xs : List ℕ) → 0 < end → end ≤ 253 → to ≡ slice_index masktab_list (end - 1) + 1 → ((b : ℕ) → slice_index xs b ≡ bndpsd start end exps b) → (b : ℕ) → slice_index (take to xs) b ≡ bndpsd start end exps b
+bndpsd_alone start end to exps xs some l e h b =
+    elim (cases_lt b to) [
+      | inl below ↦ get_or-take to xs b 0 below ∙ h b
+      | inr above ↦ get_or_past (take to xs) b 0 (omega (arith, length-take to xs)) ∙ sym (bndpsd_behind start end exps b some l (omega arith))
+    ]
+
+pub bndpsd_alone_bound : (to : ℕ) (xs : List ℕ) → ((b : ℕ) → slice_index xs b ≤ 4544) → (b : ℕ) → slice_index (take to xs) b ≤ 4544
+bndpsd_alone_bound to xs h b =
+    elim (cases_lt b to) [
+      | inl below ↦ omega (arith, get_or-take to xs b 0 below, h b)
+      | inr above ↦ omega (arith, get_or_past (take to xs) b 0 (omega (arith, length-take to xs)))
     ]

@@ -12,13 +12,13 @@ use Rattle.ac_base.proofs.Tests.{all_below-at}
 use Rattle.ac_base.proofs.AllocationTables.{all_rises, bands_small}
 use Rattle.ac_alloc.specs.Excitation.{AreBands}
 
-pub late_band : (k : ℕ) → k < 217 → 21 ≤ slice_index masktab_list (36 + k)
-late_band k below = leb-true _ _ (all_below-at 217 (λ k. nat_le 21 (slice_index masktab_list (36 + k))) refl k below)
+pub late_band : (k : ℕ) → k < 217 → 30 ≤ slice_index masktab_list (36 + k)
+late_band k below = leb-true _ _ (all_below-at 217 (λ k. nat_le 30 (slice_index masktab_list (36 + k))) refl k below)
 
 pub bands_rise : (i j : ℕ) → i ≤ j → j < 253 → slice_index masktab_list i ≤ slice_index masktab_list j
 bands_rise i j l m = all_rises masktab_list i j refl l m
 
-wide : (start end from to : ℕ) → start ≡ 0 → 37 ≤ end → end ≤ 253 → from ≡ slice_index masktab_list start → to ≡ slice_index masktab_list (end - 1) + 1 → (from ≡ 0) × (22 ≤ to) × (to ≤ 50)
+wide : (start end from to : ℕ) → start ≡ 0 → 37 ≤ end → end ≤ 253 → from ≡ slice_index masktab_list start → to ≡ slice_index masktab_list (end - 1) + 1 → (from ≡ 0) × (31 ≤ to) × (to ≤ 50)
 wide start end from to es l m ef et =
     let e : 36 + (end - 37) ≡ end - 1 = omega arith in
     let late = late_band (end - 37) (omega arith) in

@@ -10,7 +10,7 @@ IsParams p =
 -- those of the encoder
 abbrev pub encoder_params : ℕ → Params
 encoder_params fscod =
-    record { fscod = fscod; sdcycod = 2; fdcycod = 1; sgaincod = 1; dbpbcod = 2; floorcod = 7; fgaincod = 4; cplfleak = 0; cplsleak = 0 }
+    record { fscod = fscod; sdcycod = 2; fdcycod = 1; sgaincod = 1; dbpbcod = 3; floorcod = 7; fgaincod = 4; cplfleak = 0; cplsleak = 0 }
 
 -- by sdcycod (Table 7.6)
 abbrev pub slow_decays : List ℕ

@@ -69,7 +69,7 @@ excite_by lead.Low p f P b = excite p true P b
 
 -- the bands that a coded channel can have, up to but not to
 abbrev pub AreBands : Lead → ℕ → ℕ → Type 0
-AreBands lead.Free from to = (from ≡ 0) × (22 ≤ to) × (to ≤ 50)
-AreBands lead.Coupled from to = (from ≡ 0) × (22 ≤ to) × (to ≤ 50)
+AreBands lead.Free from to = (from ≡ 0) × (31 ≤ to) × (to ≤ 50)
+AreBands lead.Coupled from to = (from ≡ 0) × (31 ≤ to) × (to ≤ 50)
 AreBands lead.Coupling from to = (from ≤ to) × (to ≤ 50)
 AreBands lead.Low from to = (from ≡ 0) × (to ≡ 7)

@@ -26,9 +26,12 @@ level mask floor t = pos (bit_and (natural (mask -ℤ snr_offset t -ℤ floor)) 
 abbrev pub kept : ℤ → ℤ
 kept level = int_max (negsuc 2047) (int_min level (pos 3072))
 
--- by the distance of the bin's density from it, an address of 0 to 63
+-- a bin's place in the table of pointers: how far its density stands above the level, in steps of 32, from 0 to 63
+abbrev pub address : ℤ → ℕ → ℕ
+address level psd = min (natural (pos psd -ℤ level) / 32) 63
+
 abbrev pub bap_of : ℤ → ℕ → ℕ
-bap_of level psd = slice_index baptab_list (min (natural (pos psd -ℤ level) / 32) 63)
+bap_of level psd = slice_index baptab_list (address level psd)
 
 abbrev pub bap : ℤ → ℤ → ℕ → ℕ → ℕ
 bap mask floor psd t = bap_of (level mask floor t) psd

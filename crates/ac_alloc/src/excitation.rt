@@ -1,5 +1,5 @@
 //! The excitation of the bands of a coded channel (A/52 7.2.2.4).
-ghost use Rattle.std.specs.Prelude.{◌≡◌, ◌<◌, ◌≤◌, ◌+◌, ◌*◌, ◌-◌, ◌^◌, ℕ, ℤ, pos, ◌-ℤ◌, ◌≤ℤ◌, unsigned_abs, slice_index, slice_index_or, if◌then◌else◌};
+ghost use Rattle.std.specs.Prelude.{◌≡◌, ◌<◌, ◌≤◌, ◌+◌, ◌*◌, ◌-◌, ◌^◌, ℕ, ℤ, pos, ◌-ℤ◌, ◌≤ℤ◌, unsigned_abs, length, slice_index, slice_index_or, if◌then◌else◌};
 ghost use Rattle.std.specs.Int.{int_max};
 ghost use Rattle.ac_alloc.specs.Excitation.{joined, excite, excite_coupling, excite_by, AreBands};
 ghost use Rattle.ac_alloc.specs.Codes.{IsParams};
@@ -67,14 +67,14 @@ fn greater_leak(fast: i32, slow: i32) -> i32
     fast.max(slow)
 }
 
-/// The excitation of each band of a full channel or of LFE, up to but not `to`.
-fn excite_channel(p: &Params, bndpsd: &[u16; 50], lfe: bool, to: usize, out: &mut [i32; 50])
+/// The excitation of each band of a full channel or of LFE.
+fn excite_channel(p: &Params, bndpsd: &[u16], lfe: bool, out: &mut [i32; 50])
     requires params { IsParams p.now }
-    requires few { to ≤ (if lfe then 7 else 50) }
-    requires some { (if lfe then 7 else 22) ≤ to }
+    requires few { length bndpsd.now ≤ (if lfe then 7 else 50) }
+    requires some { (if lfe then 7 else 31) ≤ length bndpsd.now }
     requires bounds { (b : ℕ) → slice_index bndpsd.now b ≤ 4544 }
-    ensures values { (b : ℕ) → b < to → slice_index_or out.new b (pos 0) ≡ excite p.now lfe (λ j. slice_index bndpsd.now j) b }
-    ensures bounds { (b : ℕ) → b < to → unsigned_abs (slice_index_or out.new b (pos 0)) ≤ 4416 }
+    ensures values { (b : ℕ) → b < length bndpsd.now → slice_index_or out.new b (pos 0) ≡ excite p.now lfe (λ j. slice_index bndpsd.now j) b }
+    ensures bounds { (b : ℕ) → b < length bndpsd.now → unsigned_abs (slice_index_or out.new b (pos 0)) ≤ 4416 }
 {
     let mut low = [0u16; 50];
     lowcomps(bndpsd, lfe, &mut low);
@@ -88,7 +88,6 @@ fn excite_channel(p: &Params, bndpsd: &[u16; 50], lfe: bool, to: usize, out: &mu
         fast_gain,
         p.fast_decay(),
         begin,
-        to,
         &mut fast,
     );
     let slow_gain = p.slow_gain();
@@ -100,10 +99,9 @@ fn excite_channel(p: &Params, bndpsd: &[u16; 50], lfe: bool, to: usize, out: &mu
         slow_gain,
         p.slow_decay(),
         begin,
-        to,
         &mut slow,
     );
-    for b in 0..to {
+    for b in 0..bndpsd.len() {
         out[b] = if b < begin {
             below_leaks(bndpsd[b], fast_gain, low[b])
         } else if b <= 21 {
@@ -114,20 +112,14 @@ fn excite_channel(p: &Params, bndpsd: &[u16; 50], lfe: bool, to: usize, out: &mu
     }
 }
 
-/// The excitation of each band of the coupling channel, from `from` up to but not `to`.
-fn excite_coupling_channel(
-    p: &Params,
-    bndpsd: &[u16; 50],
-    from: usize,
-    to: usize,
-    out: &mut [i32; 50],
-)
+/// The excitation of each band of the coupling channel, from `from` on.
+fn excite_coupling_channel(p: &Params, bndpsd: &[u16], from: usize, out: &mut [i32; 50])
     requires params { IsParams p.now }
-    requires few { to ≤ 50 }
-    requires order { from ≤ to }
+    requires few { length bndpsd.now ≤ 50 }
+    requires order { from ≤ length bndpsd.now }
     requires bounds { (b : ℕ) → slice_index bndpsd.now b ≤ 4544 }
-    ensures values { (b : ℕ) → from ≤ b → b < to → slice_index_or out.new b (pos 0) ≡ excite_coupling p.now from (λ j. slice_index bndpsd.now j) b }
-    ensures bounds { (b : ℕ) → from ≤ b → b < to → unsigned_abs (slice_index_or out.new b (pos 0)) ≤ 4416 }
+    ensures values { (b : ℕ) → from ≤ b → b < length bndpsd.now → slice_index_or out.new b (pos 0) ≡ excite_coupling p.now from (λ j. slice_index bndpsd.now j) b }
+    ensures bounds { (b : ℕ) → from ≤ b → b < length bndpsd.now → unsigned_abs (slice_index_or out.new b (pos 0)) ≤ 4416 }
 {
     let mut fast = [0i32; 50];
     leaks(
@@ -136,7 +128,6 @@ fn excite_coupling_channel(
         p.fast_gain(),
         p.fast_decay(),
         from,
-        to,
         &mut fast,
     );
     let mut slow = [0i32; 50];
@@ -146,33 +137,26 @@ fn excite_coupling_channel(
         p.slow_gain(),
         p.slow_decay(),
         from,
-        to,
         &mut slow,
     );
-    for b in from..to {
+    for b in from..bndpsd.len() {
         out[b] = greater_leak(fast[b], slow[b]);
     }
 }
 
-/// The excitation of each band of a coded channel, from `from` up to but not `to`.
-pub(crate) fn excite_span(
-    p: &Params,
-    lead: Lead,
-    bndpsd: &[u16; 50],
-    from: usize,
-    to: usize,
-    out: &mut [i32; 50],
-)
+/// The excitation of each band of a coded channel, from `from` on. `bndpsd` has the densities of the channel's bands and
+/// of those below, and no more.
+pub(crate) fn excite_span(p: &Params, lead: Lead, bndpsd: &[u16], from: usize, out: &mut [i32; 50])
     requires params { IsParams p.now }
-    requires bands { AreBands lead from to }
+    requires bands { AreBands lead from (length bndpsd.now) }
     requires bounds { (b : ℕ) → slice_index bndpsd.now b ≤ 4544 }
-    ensures values { (b : ℕ) → from ≤ b → b < to → slice_index_or out.new b (pos 0) ≡ excite_by lead p.now from (λ j. slice_index bndpsd.now j) b }
-    ensures bounds { (b : ℕ) → from ≤ b → b < to → unsigned_abs (slice_index_or out.new b (pos 0)) ≤ 4416 }
+    ensures values { (b : ℕ) → from ≤ b → b < length bndpsd.now → slice_index_or out.new b (pos 0) ≡ excite_by lead p.now from (λ j. slice_index bndpsd.now j) b }
+    ensures bounds { (b : ℕ) → from ≤ b → b < length bndpsd.now → unsigned_abs (slice_index_or out.new b (pos 0)) ≤ 4416 }
 {
     match lead {
-        Lead::Free => excite_channel(p, bndpsd, false, to, out),
-        Lead::Coupled => excite_channel(p, bndpsd, false, to, out),
-        Lead::Coupling => excite_coupling_channel(p, bndpsd, from, to, out),
-        Lead::Low => excite_channel(p, bndpsd, true, to, out),
+        Lead::Free => excite_channel(p, bndpsd, false, out),
+        Lead::Coupled => excite_channel(p, bndpsd, false, out),
+        Lead::Coupling => excite_coupling_channel(p, bndpsd, from, out),
+        Lead::Low => excite_channel(p, bndpsd, true, out),
     }
 }

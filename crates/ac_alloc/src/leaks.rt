@@ -1,5 +1,5 @@
 //! The leaks, by which a band masks those above it (A/52 7.2.2.4).
-ghost use Rattle.std.specs.Prelude.{◌≡◌, ◌<◌, ◌≤◌, ◌+◌, ◌*◌, ◌-◌, ◌^◌, ℕ, ℤ, pos, ◌-ℤ◌, unsigned_abs, slice_index, slice_index_or};
+ghost use Rattle.std.specs.Prelude.{◌≡◌, ◌<◌, ◌≤◌, ◌+◌, ◌*◌, ◌-◌, ◌^◌, ℕ, ℤ, pos, ◌-ℤ◌, unsigned_abs, length, slice_index, slice_index_or};
 ghost use Rattle.std.specs.Int.{int_max};
 ghost use Rattle.ac_alloc.specs.Excitation.{leak_from};
 
@@ -17,28 +17,27 @@ fn next_leak(leak: i32, decay: u16, bndpsd: u16, gain: u16) -> i32
     (leak - i32::from(decay)).max(i32::from(bndpsd) - i32::from(gain))
 }
 
-/// The leak at each band from `from` up to but not `to`, where it is `start` before the first.
+/// The leak at each band of a channel from `from` on, where it is `start` before the first.
 pub(crate) fn leaks(
     start: i32,
-    bndpsd: &[u16; 50],
+    bndpsd: &[u16],
     gain: u16,
     decay: u16,
     from: usize,
-    to: usize,
     out: &mut [i32; 50],
 )
-    requires few { to ≤ 50 }
-    requires order { from ≤ to }
+    requires few { length bndpsd.now ≤ 50 }
+    requires order { from ≤ length bndpsd.now }
     requires start { unsigned_abs start ≤ 4416 }
     requires decay { decay ≤ 2000 }
-    requires bndpsd { (b : ℕ) → from ≤ b → b < to → slice_index bndpsd.now b ≤ 4544 }
+    requires bndpsd { (b : ℕ) → from ≤ b → b < length bndpsd.now → slice_index bndpsd.now b ≤ 4544 }
     requires least { 128 ≤ gain }
     requires most { gain ≤ 2000 }
-    ensures values { (b : ℕ) → from ≤ b → b < to → slice_index_or out.new b (pos 0) ≡ leak_from start (λ j. slice_index bndpsd.now j) gain decay from b }
-    ensures bounds { (b : ℕ) → from ≤ b → b < to → unsigned_abs (slice_index_or out.new b (pos 0)) ≤ 4416 }
+    ensures values { (b : ℕ) → from ≤ b → b < length bndpsd.now → slice_index_or out.new b (pos 0) ≡ leak_from start (λ j. slice_index bndpsd.now j) gain decay from b }
+    ensures bounds { (b : ℕ) → from ≤ b → b < length bndpsd.now → unsigned_abs (slice_index_or out.new b (pos 0)) ≤ 4416 }
 {
     let mut leak = start;
-    for b in from..to {
+    for b in from..bndpsd.len() {
         leak = next_leak(leak, decay, bndpsd[b], gain);
         out[b] = leak;
     }

@@ -16,4 +16,4 @@ mod tests;
 pub use laws::allocation_laws;
 pub use mask::Mask;
 pub use params::Params;
-pub use pointers::baps;
+pub use pointers::{address, baps};

@@ -1,5 +1,5 @@
 //! Low-frequency compensation, and the band at which the leaks begin (A/52 7.2.2.4).
-ghost use Rattle.std.specs.Prelude.{◌≡◌, ◌<◌, ◌≤◌, ◌+◌, ◌*◌, ◌-◌, ℕ, slice_index, if◌then◌else◌, true, false};
+ghost use Rattle.std.specs.Prelude.{◌≡◌, ◌<◌, ◌≤◌, ◌+◌, ◌*◌, ◌-◌, ℕ, length, slice_index, if◌then◌else◌, true, false};
 ghost use Rattle.ac_alloc.specs.Excitation.{lowcomp, low, lowcomp_to, begin};
 
 /// The compensation of a band by that of the band before, its density and the next band's.
@@ -24,8 +24,10 @@ fn compensate(low: u16, here: u16, next: u16, band: usize) -> u16
     }
 }
 
-/// The compensation of bands 0 to 21, of LFE 0 to 6; LFE's band 6 keeps that of band 5.
-pub(crate) fn lowcomps(bndpsd: &[u16; 50], lfe: bool, out: &mut [u16; 50])
+/// The compensation of bands 0 to 21, of LFE 0 to 6; LFE's band 6 keeps that of band 5. `bndpsd` has the channel's bands
+/// alone: of LFE, seven.
+pub(crate) fn lowcomps(bndpsd: &[u16], lfe: bool, out: &mut [u16; 50])
+    requires all { (if lfe then 7 else 23) ≤ length bndpsd.now }
     requires bounds { (b : ℕ) → b < (if lfe then 7 else 23) → slice_index bndpsd.now b ≤ 4544 }
     ensures values { (b : ℕ) → b < (if lfe then 7 else 22) → slice_index out.new b ≡ low lfe (λ j. slice_index bndpsd.now j) b }
     ensures bounds { (b : ℕ) → b < (if lfe then 7 else 22) → slice_index out.new b ≤ 384 }
@@ -39,8 +41,9 @@ pub(crate) fn lowcomps(bndpsd: &[u16; 50], lfe: bool, out: &mut [u16; 50])
 }
 
 /// The compensation of the first bands; gives that of the last.
-fn lowcomp_run(bndpsd: &[u16; 50], bands: usize, out: &mut [u16; 50]) -> u16
+fn lowcomp_run(bndpsd: &[u16], bands: usize, out: &mut [u16; 50]) -> u16
     requires few { bands < 50 }
+    requires all { bands < length bndpsd.now }
     requires bounds { (b : ℕ) → b ≤ bands → slice_index bndpsd.now b ≤ 4544 }
     ensures values { (b : ℕ) → b < bands → slice_index out.new b ≡ lowcomp_to (λ j. slice_index bndpsd.now j) (b + 1) }
     ensures bounds { (b : ℕ) → b < bands → slice_index out.new b ≤ 384 }
@@ -56,7 +59,9 @@ fn lowcomp_run(bndpsd: &[u16; 50], bands: usize, out: &mut [u16; 50]) -> u16
 }
 
 /// The band at which the leaks begin: the one behind the first of bands 2 to 6, of LFE 2 to 5, that is at most the next.
-pub(crate) fn find_begin(bndpsd: &[u16; 50], lfe: bool) -> usize
+/// LFE's band 6 is its last, so that it has none to be compared with.
+pub(crate) fn find_begin(bndpsd: &[u16], lfe: bool) -> usize
+    requires all { (if lfe then 7 else 8) ≤ length bndpsd.now }
     ensures value { result ≡ begin lfe (λ j. slice_index bndpsd.now j) }
     ensures least { 3 ≤ result }
     ensures most { result ≤ 7 }

@@ -36,7 +36,7 @@ impl Mask {
         let from = band_of(span.start) as usize;
         let to = band_of(span.end - 1) as usize + 1;
         let mut excite = [0i32; 50];
-        excite_span(p, span.lead, &bndpsd, from, to, &mut excite);
+        excite_span(p, span.lead, &bndpsd[..to], from, &mut excite);
         let mut m = [0i32; 50];
         masks(p, &bndpsd, &excite, from, to, &mut m);
         Mask {

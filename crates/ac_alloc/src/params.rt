@@ -55,7 +55,7 @@ impl Params {
             sdcycod: 2,
             fdcycod: 1,
             sgaincod: 1,
-            dbpbcod: 2,
+            dbpbcod: 3,
             floorcod: 7,
             fgaincod: 4,
             cplfleak: 0,

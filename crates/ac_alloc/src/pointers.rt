@@ -1,6 +1,6 @@
 //! The bit allocation pointers of the bins of a coded channel (A/52 7.2.2.7).
 ghost use Rattle.std.specs.Prelude.{◌≡◌, ◌<◌, ◌≤◌, ◌+◌, ◌*◌, ◌-◌, ◌^◌, ◌⊎◌, ℕ, ℤ, pos, ◌+ℤ◌, ◌-ℤ◌, ◌≤ℤ◌, unsigned_abs, slice_index, slice_index_or, bit_and, if◌then◌else◌};
-ghost use Rattle.ac_alloc.specs.Pointers.{natural, snr_offset, level, kept, bap, bap_of};
+ghost use Rattle.ac_alloc.specs.Pointers.{natural, snr_offset, level, kept, address, bap, bap_of};
 ghost use Rattle.ac_base.specs.Shape.{IsSpan};
 ghost use Rattle.ac_alloc.specs.Integration.{AreExponents, psd};
 ghost use Rattle.ac_base.specs.Allocation.{masktab_list};
@@ -64,15 +64,34 @@ fn raised_levels(mask: &Mask, t: u16, out: &mut [u16; 50])
     }
 }
 
+/// The place of a bin in the table of pointers, by what stands of its band's mask.
+#[inline]
+fn address_at(raised: u16, psd: u16) -> u8
+    requires psd { psd ≤ 3072 }
+    ensures value { (level : ℤ) → pos raised ≡ kept level +ℤ pos 2048 → result ≡ address level psd }
+    ensures bound { result ≤ 63 }
+{
+    let left = (psd + 2048).saturating_sub(raised);
+    (left / 32).min(63) as u8
+}
+
 /// The pointer of a bin.
 #[inline]
 fn bap_at(raised: u16, psd: u16) -> u8
     requires psd { psd ≤ 3072 }
     ensures value { (level : ℤ) → pos raised ≡ kept level +ℤ pos 2048 → result ≡ bap_of level psd }
 {
-    let left = (psd + 2048).saturating_sub(raised);
-    let address = (left / 32).min(63);
-    baptab(address as u8)
+    baptab(address_at(raised, psd))
+}
+
+/// The place in the table of pointers, from 0 to 63, of a bin of power spectral density `psd` under the mask of its
+/// band and the floor, at the offset t = 16 csnroffst + fsnroffst (A/52 7.2.2.7).
+pub fn address(mask: i32, floor: i32, psd: u16, t: u16) -> u8
+    requires psd { psd ≤ 3072 }
+    requires t { t ≤ 1023 }
+    ensures value { result ≡ address (level mask floor t) psd }
+{
+    address_at(raised_level(mask, floor, t), psd)
 }
 
 /// Writes the bit allocation pointer (bap) of each bin of a span to `out`, at the offset t = 16 csnroffst + fsnroffst.

@@ -3,7 +3,7 @@ ghost use Rattle.std.specs.Prelude.{◌≡◌, ◌≤◌, ◌<◌, ℕ, slice_in
 ghost use Rattle.ac_base.specs.Shape.{IsSpan};
 ghost use Rattle.ac_alloc.specs.Codes.{IsParams};
 
-use crate::{Mask, Params, allocation_laws, baps};
+use crate::{Mask, Params, address, allocation_laws, baps};
 use ac_base::{Shape, Span, band_of};
 use std::process::Abort;
 
@@ -390,6 +390,14 @@ fn masks_and_baps_of_the_running_form(rt: HostRuntime) {
     allocation_laws();
 }
 
+// As the encoder's frames carry them in block 0.
+#[test]
+fn codes_of_the_encoder(rt: HostRuntime) {
+    for fscod in 0..3u8 {
+        assert!(rt; Params::encoder(fscod) == params(&rt, [fscod, 2, 1, 1, 3, 7, 4, 0, 0]));
+    }
+}
+
 #[test]
 fn lfe_masks(rt: HostRuntime) {
     let span = span_at(&rt, 60, None, 2);
@@ -446,4 +454,21 @@ fn silence_baps_top(rt: HostRuntime) {
         assert_eq!(rt; out[k], 15, "bin {k}");
     }
     assert_eq!(rt; out[253], 9);
+}
+
+#[test]
+fn addresses_of_lfe(rt: HostRuntime) {
+    for (t, want) in [
+        (0, 0),
+        (240, 20),
+        (400, 40),
+        (576, 62),
+        (584, 63),
+        (592, 63),
+        (1023, 63),
+    ] {
+        assert!(rt; t <= 1023);
+        let place = address(2432, -2048, 3072, t);
+        assert_eq!(rt; place, want, "at {t}");
+    }
 }

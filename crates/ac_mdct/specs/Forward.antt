@@ -1,4 +1,4 @@
--- What the forward transform gives.
+-- What the forward transform gives (A/52 8.2.3): the window (8.2.3.1), and the sums over it (8.2.3.2).
 use Rattle.std.specs.Prelude.{◌≡◌, ℕ, ◌+◌, ◌-◌, ◌*◌, ◌^◌, ◌<◌, List, ◌++◌, ℤ, pos, neg_ℤ, ◌+ℤ◌, ◌*ℤ◌, slice_index_or}
 use Rattle.std.specs.Int.{int_max, int_min}
 use Rattle.ac_base.specs.Floor.{floor_div}

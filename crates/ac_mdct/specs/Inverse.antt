@@ -1,4 +1,4 @@
--- What the inverse transform gives.
+-- What the inverse transform gives (A/52 7.9.4.1): the sums, the window and the overlap with the block before.
 use Rattle.std.specs.Prelude.{◌≡◌, ℕ, ◌+◌, ◌-◌, ◌^◌, ◌<◌, List, ℤ, pos, neg_ℤ, ◌+ℤ◌, ◌*ℤ◌, slice_index_or}
 use Rattle.std.specs.Int.{int_max, int_min}
 use Rattle.ac_base.specs.Floor.{floor_div}

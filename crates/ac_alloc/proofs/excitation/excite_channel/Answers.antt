@@ -20,7 +20,7 @@ loop-b-preserved c =
     let fs : SFits w32 c.less_gain-slow_first.result = search rules in
     let fb : z ≤ b → SFits w32 f = λ h. fits_signed_from_abs w32 f (omega (arith, c.leaks.ensures.bounds b h (omega arith))) in
     let sb : z ≤ b → SFits w32 s = λ h. fits_signed_from_abs w32 s (omega (arith, c.leaks-2.ensures.bounds b h (omega arith))) in
-    let lowcomps : b ≤ 21 → slice_index c.lowcomps.new.out b ≡ low c.args.lfe P b = λ h. c.lowcomps.ensures.values b (lows_reach c.args.lfe b c.args.to c.requires.few (omega arith) h) in
+    let lowcomps : b ≤ 21 → slice_index c.lowcomps.new.out b ≡ low c.args.lfe P b = λ h. c.lowcomps.ensures.values b (lows_reach c.args.lfe b (length c.args.bndpsd.now) c.requires.few (omega arith) h) in
     let lf : z ≤ b → IsLeak P (fast_gain p) (fast_decay p) b z f = λ h. record {
       gain = c.fast_gain-fast_gain.result;
       decay = c.fast_decay.result;
@@ -61,7 +61,7 @@ loop-b-preserved c =
       | else-b-begin+else-b-le21 w ↦ let fr : SFits w32 w.greater_leak.result = search rules in
           rw (w.out-is ∙ to_z-of_z w32 w.greater_leak.result fr) w.greater_leak.ensures.bound
     ] in
-    let inside : b < length c.loop-b.out = omega (arith, c.loop-b.invariant.2, few_bands c.args.lfe c.args.to c.requires.few) in (
+    let inside : b < length c.loop-b.out = omega (arith, c.loop-b.invariant.2, few_bands c.args.lfe (length c.args.bndpsd.now) c.requires.few) in (
       written_next (λ k y. y ≡ excite p c.args.lfe P k) (pos 0) c.loop-b.out b x inside c.loop-b.invariant.0 v,
       written_next (λ k y. unsigned_abs y ≤ 4416) (pos 0) c.loop-b.out b x inside c.loop-b.invariant.1 u,
       length-set c.loop-b.out b x ∙ c.loop-b.invariant.2,
