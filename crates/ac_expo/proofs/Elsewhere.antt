@@ -14,10 +14,10 @@ kept_at shape old es c rows coded room outside before = λ d b k out.
     elim (cases_eq d c) [
       | inl same ↦
           subst
-            (λ x. (x < channels shape → IsIn (channel_span shape x) k → ⊥) → slice_index (slice_index_or (slice_index_or (set es c rows) x []) b []) k ≡ slice_index (slice_index_or (slice_index_or old x []) b []) k)
-            (sym same)
-            (λ o. ap (λ r. slice_index (slice_index_or r b []) k) (get_or-set_same es c rows [] room) ∙ outside b k (o coded) ∙ before c b k o)
-            out
+          (λ x. (x < channels shape → IsIn (channel_span shape x) k → ⊥) → slice_index (slice_index_or (slice_index_or (set es c rows) x []) b []) k ≡ slice_index (slice_index_or (slice_index_or old x []) b []) k)
+          (sym same)
+          (λ o. ap (λ r. slice_index (slice_index_or r b []) k) (get_or-set_same es c rows [] room) ∙ outside b k (o coded) ∙ before c b k o)
+          out
       | inr other ↦ ap (λ r. slice_index (slice_index_or r b []) k) (get_or-set_other es c d rows [] other) ∙ before d b k out
     ]
 
@@ -27,7 +27,7 @@ raw_at shape coefs es c rows room now before d within =
     elim (cases_eq d c) [
       | inl same ↦
           subst (λ x. AreRawInBlocks (channel_span shape x) (slice_index_or coefs x []) (slice_index_or (set es c rows) x [])) (sym same)
-            (subst (λ r. AreRawInBlocks (channel_span shape c) (slice_index_or coefs c []) r) (sym (get_or-set_same es c rows [] room)) now)
+          (subst (λ r. AreRawInBlocks (channel_span shape c) (slice_index_or coefs c []) r) (sym (get_or-set_same es c rows [] room)) now)
       | inr other ↦
           subst (λ r. AreRawInBlocks (channel_span shape d) (slice_index_or coefs d []) r) (sym (get_or-set_other es c d rows [] other)) (before d (omega arith))
     ]
@@ -40,9 +40,9 @@ pub written_at : (shape : Shape) (coefs : List (List (List ℤ))) (old es : List
 written_at shape coefs old es c i span rows at is coded long small raw outside before kept =
     let room : c < length es = omega (arith, long) in
     let raw_here : AreRawInBlocks (channel_span shape c) (slice_index_or coefs c []) rows =
-      subst (λ s. AreRawInBlocks s (slice_index_or coefs c []) rows) is (subst (λ x. AreRawInBlocks span (slice_index_or coefs x []) rows) at raw) in
+    subst (λ s. AreRawInBlocks s (slice_index_or coefs c []) rows) is (subst (λ x. AreRawInBlocks span (slice_index_or coefs x []) rows) at raw) in
     let outside_here : KeepsOutside (channel_span shape c) (slice_index_or es c []) rows =
-      subst (λ s. KeepsOutside s (slice_index_or es c []) rows) is (subst (λ x. KeepsOutside span (slice_index_or es x []) rows) at outside) in
+    subst (λ s. KeepsOutside s (slice_index_or es c []) rows) is (subst (λ x. KeepsOutside span (slice_index_or es x []) rows) at outside) in
     let P : ℕ → Type 0 = λ x. (length (set es x rows) ≡ 7) × ((d : ℕ) → d < c + 1 → AreRawInBlocks (channel_span shape d) (slice_index_or coefs d []) (slice_index_or (set es x rows) d [])) × KeepsElsewhere shape old (set es x rows) in
     subst P (sym at) (length-set es c rows ∙ long, raw_at shape coefs es c rows room raw_here before, kept_at shape old es c rows coded room outside_here kept)
 
