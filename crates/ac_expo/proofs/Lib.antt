@@ -2,6 +2,7 @@ pub mod Zeros
 pub mod Walk
 pub mod Spread
 pub mod Minima
+pub mod Elsewhere
 pub mod Formula
 pub mod Numbers
 pub mod Kept

@@ -1,4 +1,4 @@
--- Raw exponents of coefficients of scale 2 ^ 24.
+-- Raw exponents of coefficients of scale 2 ^ 24 (A/52 8.2.7).
 use Rattle.std.specs.Prelude.{◌≡◌, ℕ, zero, suc, ◌*◌, ◌^◌, ◌<◌, ◌≤◌, nat_lt, if◌then◌else◌, ℤ, pos, List, [], slice_index, slice_index_or, unsigned_abs}
 use Rattle.ac_base.specs.declared.shapes.Shape.{Shape}
 use Rattle.ac_base.specs.declared.spans.Span.{Span}
@@ -37,6 +37,21 @@ channels shape = coded_of shape.acmod shape.lfe shape.couple
 
 abbrev pub AreRaw : Shape → List (List (List ℤ)) → List (List (List ℕ)) → Type 0
 AreRaw shape cs es = (c : ℕ) → c < channels shape → AreRawInBlocks (channel_span shape c) (slice_index_or cs c []) (slice_index_or es c [])
+
+-- each entry outside the spans of the coded channels is 24
+abbrev pub AreSilentElsewhere : Shape → List (List (List ℕ)) → Type 0
+AreSilentElsewhere shape es =
+    (c b k : ℕ) → c < 7 → b < 6 → k < 256 → (c < channels shape → IsIn (channel_span shape c) k → ⊥) → slice_index (slice_index_or (slice_index_or es c []) b []) k ≡ 24
+
+-- what stands outside the span stays, in each block
+abbrev pub KeepsOutside : Span → List (List ℕ) → List (List ℕ) → Type 0
+KeepsOutside span old new =
+    (b k : ℕ) → (IsIn span k → ⊥) → slice_index (slice_index_or new b []) k ≡ slice_index (slice_index_or old b []) k
+
+-- and for each channel
+abbrev pub KeepsElsewhere : Shape → List (List (List ℕ)) → List (List (List ℕ)) → Type 0
+KeepsElsewhere shape old new =
+    (c b k : ℕ) → (c < channels shape → IsIn (channel_span shape c) k → ⊥) → slice_index (slice_index_or (slice_index_or new c []) b []) k ≡ slice_index (slice_index_or (slice_index_or old c []) b []) k
 
 -- the coefficients of the spans are below 2 ^ 24 in magnitude
 abbrev pub AreSmallInRow : Span → List ℤ → Type 0

@@ -1,5 +1,5 @@
 ghost use Rattle.std.specs.Prelude.{◌≡◌, ◌<◌, ◌≤◌, [], length, take, IfOk, OnOk, OnErr};
-ghost use Rattle.ac_io.specs.Outside.{Adds, next};
+ghost use Rattle.ac_io.specs.Outside.{Rose, Adds, AddsFront, next};
 
 use crate::outside::{Failed, Sink};
 use std::io::Write;
@@ -46,7 +46,14 @@ impl<W: Write + Drop> Sink for StdSink<W> {
 
     ghost faults = { λ s. s.faults };
 
-    fn write(&mut self, piece: &[u8]) -> Result<(), Failed> {
+    fn write(&mut self, piece: &[u8]) -> Result<(), Failed>
+        ensures adds { OnOk result (Adds (W.contents self.old.inner) (W.contents self.new.inner) piece.now) }
+        ensures failed { OnErr result (Rose self.old.faults self.new.faults) }
+        ensures front { OnErr result (AddsFront (W.contents self.old.inner) (W.contents self.new.inner) piece.now) }
+        ensures never_falls { self.old.faults ≤ self.new.faults }
+        ensures once { OnErr result (self.new.faults ≡ next self.old.faults) }
+        ensures counted { OnOk result (self.new.faults ≡ self.old.faults) }
+    {
         let mut done: usize = 0;
         while done < piece.len() {
             done += self.write_some(&piece[done..])?;

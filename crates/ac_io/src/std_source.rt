@@ -1,4 +1,5 @@
-ghost use Rattle.std.specs.Prelude.{◌≡◌};
+ghost use Rattle.std.specs.Prelude.{◌≡◌, ◌<◌, ◌≤◌, length, IfOk, OnOk, OnErr};
+ghost use Rattle.ac_io.specs.Outside.{Rose, ReadsFront, IsAtEnd, LosesNothing, next};
 
 use crate::outside::{Failed, Source};
 use std::io::Read;
@@ -25,7 +26,17 @@ impl<R: Read + Drop> Source for StdSource<R> {
 
     ghost faults = { λ s. s.faults };
 
-    fn read(&mut self, into: &mut [u8]) -> Result<usize, Failed> {
+    fn read(&mut self, into: &mut [u8]) -> Result<usize, Failed>
+        ensures count { IfOk result (λ n. n ≤ length into.old) }
+        ensures front { IfOk result (λ n.
+            ReadsFront (R.remaining self.old.inner) (R.remaining self.new.inner) into.new n) }
+        ensures end { IfOk result (λ n. n ≡ 0 → 0 < length into.old → IsAtEnd (R.remaining self.old.inner)) }
+        ensures failed { OnErr result (Rose self.old.faults self.new.faults) }
+        ensures kept { OnErr result (LosesNothing (R.remaining self.old.inner) (R.remaining self.new.inner)) }
+        ensures never_falls { self.old.faults ≤ self.new.faults }
+        ensures once { OnErr result (self.new.faults ≡ next self.old.faults) }
+        ensures counted { OnOk result (self.new.faults ≡ self.old.faults) }
+    {
         match self.inner.read(into) {
             Ok(count) => Ok(count),
             Err(_) => {
