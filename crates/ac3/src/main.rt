@@ -1,6 +1,10 @@
 //! `ac3 COMMAND OPTIONS IN OUT REPORT`: opens the three named things, does the command, and ends with its code.
 #![tactic(auto)]
 
+ghost use Rattle.std.specs.Prelude.{◌≡◌, ◌⊎◌, map, string_bytes};
+ghost use Rattle.ac_words.specs.Grammar.{InGrammar};
+ghost use Rattle.ac3.specs.Codes.{IsCode, code_of_words};
+
 use ac_app::{Names, NullSink, Sink, Source, StdSink, StdSource, WordsFault, names, run};
 use std::fs::File;
 use std::io::ErrorKind;
@@ -15,7 +19,9 @@ fn with_report<S: Source, O: Sink>(
     named: &Names<'_>,
     input: &mut S,
     output: &mut O,
-) -> u8 {
+) -> u8
+    ensures { IsCode result }
+{
     if named.report == "-" {
         return run(rt.alloc(), words, input, output, &mut NullSink).code();
     }
@@ -30,7 +36,9 @@ fn with_output<S: Source>(
     words: &[String],
     named: &Names<'_>,
     input: &mut S,
-) -> u8 {
+) -> u8
+    ensures { IsCode result }
+{
     if named.to == "-" {
         return with_report(rt, words, named, input, &mut StdSink::new(rt.stdout()));
     }
@@ -40,7 +48,9 @@ fn with_output<S: Source>(
     }
 }
 
-fn with_input(rt: &HostRuntime, words: &[String], named: &Names<'_>) -> u8 {
+fn with_input(rt: &HostRuntime, words: &[String], named: &Names<'_>) -> u8
+    ensures { IsCode result }
+{
     if named.from == "-" {
         return with_output(rt, words, named, &mut StdSource::new(rt.stdin()));
     }
@@ -56,20 +66,22 @@ fn say(rt: &HostRuntime, line: &str) {
 }
 
 /// Says why there are no words to follow, and gives the exit code.
-fn refuse(rt: &HostRuntime, fault: WordsFault) -> u8 {
-    match fault {
-        WordsFault::Usage => {
-            say(rt, "status 1 usage");
-            1
-        }
-        WordsFault::NoMemory => {
-            say(rt, "status 9 no memory");
-            9
-        }
-    }
+fn refuse(rt: &HostRuntime, fault: WordsFault) -> u8
+    ensures { result ≡ code_of_words fault }
+{
+    let (code, line) = match fault {
+        WordsFault::Usage => (1, "status 1 usage"),
+        WordsFault::NoMemory => (9, "status 9 no memory"),
+    };
+    say(rt, line);
+    code
 }
 
-fn perform(rt: &HostRuntime, words: &[String]) -> u8 {
+fn perform(rt: &HostRuntime, words: &[String]) -> u8
+    // Outside the grammar: 1, or 9 for want of memory.
+    ensures outside { (InGrammar (map string_bytes words.now) → ⊥) → (result ≡ 1) ⊎ (result ≡ 9) }
+    ensures code { IsCode result }
+{
     match names(rt.alloc(), words) {
         Ok(named) => {
             let code = with_input(rt, words, &named);
