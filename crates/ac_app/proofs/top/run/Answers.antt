@@ -9,16 +9,11 @@ returns-clause-takes g c = λ bytes told.
 
 pub returns-clause-gives : goal.returns-clause-gives
 returns-clause-gives g c = λ bytes h told holds.
-    run_gives _ c.job-status.result c.answer.result c.tell-whole.result bytes
-    (counts (g.O.Sink.faults c.args.output.now) (g.N.Sink.faults c.args.report.now))
-    (counts (g.O.Sink.faults c.job-status.new.output) (g.N.Sink.faults c.job-status.new.report))
-    (counts (g.O.Sink.faults c.job-status.new.output) (g.N.Sink.faults c.tell-whole.new.report))
-    h _ _ _ c.answer.ensures (omega arith) c.tell-whole.ensures.report_count (c.job-status.ensures.gives bytes h told holds) c.tell-whole.ensures.line
-    (λ cut. cut_rose
-    (counts (g.O.Sink.faults c.args.output.now) (g.N.Sink.faults c.args.report.now))
-    (counts (g.O.Sink.faults c.job-status.new.output) (g.N.Sink.faults c.job-status.new.report))
-    (counts (g.O.Sink.faults c.job-status.new.output) (g.N.Sink.faults c.tell-whole.new.report))
-    c.tell-whole.result c.job-status.ensures.report_count c.tell-whole.ensures.failed cut)
+    let old = counts (g.O.Sink.faults c.args.output.now) (g.N.Sink.faults c.args.report.now) in
+    let between = counts (g.O.Sink.faults c.job-status.new.output) (g.N.Sink.faults c.job-status.new.report) in
+    let now = counts (g.O.Sink.faults c.job-status.new.output) (g.N.Sink.faults c.tell-whole.new.report) in
+    let cut = cut_rose old between now c.tell-whole.result c.job-status.ensures.report_count c.tell-whole.ensures.failed in
+    run_gives _ c.job-status.result c.answer.result c.tell-whole.result bytes old between now h _ _ _ c.answer.ensures (omega arith) c.tell-whole.ensures.report_count (c.job-status.ensures.gives bytes h told holds) c.tell-whole.ensures.line cut
 
 pub returns-clause-ok : goal.returns-clause-ok
 returns-clause-ok g c = λ bytes h told holds.
