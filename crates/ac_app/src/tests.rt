@@ -68,8 +68,9 @@ fn encoded(alloc: Global, bytes: &[u8]) -> Result<Left, AllocError> {
 /// Writes bytes over those from `at` on.
 fn write(bytes: &mut [u8], at: usize, new: &[u8]) {
     for (place, byte) in new.iter().enumerate() {
-        if at + place < bytes.len() {
-            bytes[at + place] = *byte;
+        let here = at.saturating_add(place);
+        if here < bytes.len() {
+            bytes[here] = *byte;
         }
     }
 }
@@ -452,7 +453,7 @@ fn stops_so(alloc: Global, left: &Left, plain: &Left, wanted: Stopped) -> Result
     }
     report.extend_from_slice(wanted.end.as_bytes())?;
     let mut output = Vec::from_slice(alloc, &plain.output)?;
-    output.truncate(768 * wanted.frames);
+    output.truncate(wanted.frames.saturating_mul(768));
     Ok(
         left.status == wanted.status
             && left.output.as_slice() == output.as_slice()
