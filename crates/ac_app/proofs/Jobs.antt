@@ -9,7 +9,7 @@ use Rattle.ac_base.specs.Rates.{IsRate}
 use Rattle.ac_app.specs.declared.status.Status.{Status}
 use Rattle.ac_app.specs.declared.status.Status.TheVariants as statuses
 use Rattle.ac_app.specs.World.{Held}
-use Rattle.ac_app.specs.Run.{rate_asked, AsksEncode, EncodeTakes, EncodeGives, JobTakes, JobGives}
+use Rattle.ac_app.specs.Run.{Counts, rate_asked, AsksEncode, EncodeTakes, EncodeGives, JobTakes, JobGives}
 
 pub asks : (ws : List Text) (c : Command) (rate : ℕ) → rate ≡ rate_asked c → GivesCommand ws c → AsksEncode ws rate
 asks ws (Encode o) rate e h = (o, h.0, h.1, e)
@@ -33,11 +33,11 @@ job_takes ws statuses.WriteFault bytes left g h = (g, h)
 job_takes ws statuses.NoMemory bytes left g h = tt
 job_takes ws (statuses.TooLong most) bytes left g h = (g, h)
 
-pub job_gives : (ws : List Text) (rate : ℕ) (status : Status) (bytes : List ℕ) (h : Held) (out said : Option (List ℕ)) → AsksEncode ws rate → EncodeGives rate status bytes h out said → JobGives ws status bytes h out said
-job_gives ws rate statuses.Ok bytes h out said a e = (rate, a, e)
-job_gives ws rate statuses.Usage bytes h out said a e = absurd e
-job_gives ws rate (statuses.BadWav kind place) bytes h out said a e = (rate, a, e)
-job_gives ws rate statuses.ReadFault bytes h out said a e = (rate, a, e)
-job_gives ws rate statuses.WriteFault bytes h out said a e = (rate, a, e)
-job_gives ws rate statuses.NoMemory bytes h out said a e = e
-job_gives ws rate (statuses.TooLong most) bytes h out said a e = (rate, a, e)
+pub job_gives : (ws : List Text) (rate : ℕ) (status : Status) (bytes : List ℕ) (old new : Counts) (h : Held) (out said : Option (List ℕ)) → AsksEncode ws rate → EncodeGives rate status bytes old new h out said → JobGives ws status bytes old new h out said
+job_gives ws rate statuses.Ok bytes old new h out said a e = (rate, a, e)
+job_gives ws rate statuses.Usage bytes old new h out said a e = absurd e
+job_gives ws rate (statuses.BadWav kind place) bytes old new h out said a e = (rate, a, e)
+job_gives ws rate statuses.ReadFault bytes old new h out said a e = (rate, a, e)
+job_gives ws rate statuses.WriteFault bytes old new h out said a e = (rate, a, e)
+job_gives ws rate statuses.NoMemory bytes old new h out said a e = e
+job_gives ws rate (statuses.TooLong most) bytes old new h out said a e = (rate, a, e)

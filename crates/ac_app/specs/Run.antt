@@ -1,5 +1,6 @@
 -- What a run leaves, by its answer.
 use Rattle.std.specs.Prelude.{◌≡◌, ◌⊎◌, ℕ, ◌<◌, Bool, true, false, List, ◌++◌, take, Option, Some}
+use Rattle.ac_io.specs.Outside.{Rose}
 use Rattle.ac_words.specs.Grammar.{Text, LastWords, Means, encode, InGrammar}
 use Rattle.ac_words.specs.declared.meaning.Command.{Command}
 use Rattle.ac_words.specs.declared.meaning.Command.TheVariants.{Encode}
@@ -16,17 +17,31 @@ use Rattle.ac_app.specs.World.{Held, Holds, Frames, OutputFailed, ReportFailed}
 
 -- ---- the frames of the sound
 
--- after k whole frames and their lines a write failed
-abbrev pub Broke : ℕ → Sound → Held → Option (List ℕ) → Option (List ℕ) → Type 0
-Broke rate s h out said =
+-- how many calls of the output failed, and how many of the report
+pub record Counts : Type 0 where
+  pub out : ℕ
+  pub said : ℕ
+
+abbrev pub counts : ℕ → ℕ → Counts
+counts out said = record { out = out; said = said }
+
+abbrev pub OutputRose : Counts → Counts → Type 0
+OutputRose old new = Rose old.out new.out
+
+abbrev pub ReportRose : Counts → Counts → Type 0
+ReportRose old new = Rose old.said new.said
+
+-- after k whole frames and their lines a write failed, of the sink whose count rose
+abbrev pub Broke : ℕ → Sound → Counts → Counts → Held → Option (List ℕ) → Option (List ℕ) → Type 0
+Broke rate s old new h out said =
     (k : ℕ) × (k < frames_of s) × ((after : Held) × Frames rate s k h after
-    × (OutputFailed rate s k after out said ⊎ ReportFailed rate s k after out said))
+    × ((OutputRose old new × OutputFailed rate s k after out said) ⊎ (ReportRose old new × ReportFailed rate s k after out said)))
 
 -- what writing the frames of a sound leaves
-abbrev pub StreamLeaves : ℕ → Sound → Status → Held → Option (List ℕ) → Option (List ℕ) → Type 0
-StreamLeaves rate s Ok h out said = (after : Held) × Frames rate s (frames_of s) h after × Holds after out said
-StreamLeaves rate s WriteFault h out said = Broke rate s h out said
-StreamLeaves rate s _ h out said = ⊥
+abbrev pub StreamLeaves : ℕ → Sound → Status → Counts → Counts → Held → Option (List ℕ) → Option (List ℕ) → Type 0
+StreamLeaves rate s Ok old new h out said = (after : Held) × Frames rate s (frames_of s) h after × Holds after out said
+StreamLeaves rate s WriteFault old new h out said = Broke rate s old new h out said
+StreamLeaves rate s _ old new h out said = ⊥
 
 -- ---- the command encode
 
@@ -45,18 +60,18 @@ EncodeTakes NoMemory bytes left = Unit {0}
 EncodeTakes (TooLong most) bytes left = IsTooLong bytes × (most ≡ limit)
 
 -- the frames of the sound of a mono WAV
-abbrev pub StreamGives : ℕ → Status → List ℕ → Held → Option (List ℕ) → Option (List ℕ) → Type 0
-StreamGives rate status bytes h out said = (head : WavHead) × IsInput bytes head × StreamLeaves rate (sound_of head bytes) status h out said
+abbrev pub StreamGives : ℕ → Status → List ℕ → Counts → Counts → Held → Option (List ℕ) → Option (List ℕ) → Type 0
+StreamGives rate status bytes old new h out said = (head : WavHead) × IsInput bytes head × StreamLeaves rate (sound_of head bytes) status old new h out said
 
 -- what encode gives: nothing, or the frames of the sound
-abbrev pub EncodeGives : ℕ → Status → List ℕ → Held → Option (List ℕ) → Option (List ℕ) → Type 0
-EncodeGives rate Ok bytes h out said = StreamGives rate Ok bytes h out said
-EncodeGives rate Usage bytes h out said = ⊥
-EncodeGives rate (BadWav kind place) bytes h out said = Holds h out said
-EncodeGives rate ReadFault bytes h out said = Holds h out said
-EncodeGives rate WriteFault bytes h out said = StreamGives rate WriteFault bytes h out said
-EncodeGives rate NoMemory bytes h out said = Holds h out said
-EncodeGives rate (TooLong most) bytes h out said = Holds h out said
+abbrev pub EncodeGives : ℕ → Status → List ℕ → Counts → Counts → Held → Option (List ℕ) → Option (List ℕ) → Type 0
+EncodeGives rate Ok bytes old new h out said = StreamGives rate Ok bytes old new h out said
+EncodeGives rate Usage bytes old new h out said = ⊥
+EncodeGives rate (BadWav kind place) bytes old new h out said = Holds h out said
+EncodeGives rate ReadFault bytes old new h out said = Holds h out said
+EncodeGives rate WriteFault bytes old new h out said = StreamGives rate WriteFault bytes old new h out said
+EncodeGives rate NoMemory bytes old new h out said = Holds h out said
+EncodeGives rate (TooLong most) bytes old new h out said = Holds h out said
 
 -- ---- the job
 
@@ -75,10 +90,10 @@ JobTakes ws NoMemory bytes left = Unit {0}
 JobTakes ws status bytes left = InGrammar ws × EncodeTakes status bytes left
 
 -- what a job gives
-abbrev pub JobGives : List Text → Status → List ℕ → Held → Option (List ℕ) → Option (List ℕ) → Type 0
-JobGives ws Usage bytes h out said = Holds h out said
-JobGives ws NoMemory bytes h out said = Holds h out said
-JobGives ws status bytes h out said = (rate : ℕ) × AsksEncode ws rate × EncodeGives rate status bytes h out said
+abbrev pub JobGives : List Text → Status → List ℕ → Counts → Counts → Held → Option (List ℕ) → Option (List ℕ) → Type 0
+JobGives ws Usage bytes old new h out said = Holds h out said
+JobGives ws NoMemory bytes old new h out said = Holds h out said
+JobGives ws status bytes old new h out said = (rate : ℕ) × AsksEncode ws rate × EncodeGives rate status bytes old new h out said
 
 -- ---- the run: a job, and then its status line
 
@@ -92,14 +107,15 @@ abbrev pub answer_of : Status → Bool → Status
 answer_of Ok false = WriteFault
 answer_of status _ = status
 
--- what a run gives, where the source and both sinks tell their bytes
-pub record RunGives (ws : List Text) (result : Status) (bytes : List ℕ) (h : Held) (out_now said_now : Option (List ℕ)) : Type 0 where
+-- what a run gives, where the source and both sinks tell their bytes: the status line is cut only where a call of the report failed
+pub record RunGives (ws : List Text) (result : Status) (bytes : List ℕ) (old new : Counts) (h : Held) (out_now said_now : Option (List ℕ)) : Type 0 where
   pub status : Status
   pub whole : Bool
   pub answer : result ≡ answer_of status whole
   pub before : List ℕ
-  pub job : JobGives ws status bytes h out_now (Some before)
+  pub job : JobGives ws status bytes old new h out_now (Some before)
   pub line : Tail whole said_now before (status_line status)
+  pub cut : whole ≡ false → ReportRose old new
 
 -- all is done: the frames of the sound, their lines, and the status line
 pub record IsDone (ws : List Text) (bytes : List ℕ) (h : Held) (left_now out_now said_now : Option (List ℕ)) : Type 0 where

@@ -68,8 +68,9 @@ fn encoded(alloc: Global, bytes: &[u8]) -> Result<Left, AllocError> {
 /// Writes bytes over those from `at` on.
 fn write(bytes: &mut [u8], at: usize, new: &[u8]) {
     for (place, byte) in new.iter().enumerate() {
-        if at + place < bytes.len() {
-            bytes[at + place] = *byte;
+        let here = at.saturating_add(place);
+        if here < bytes.len() {
+            bytes[here] = *byte;
         }
     }
 }
@@ -428,23 +429,128 @@ fn words_outside_the_grammar(rt: HostRuntime) -> Result<(), Fail> {
     Ok(())
 }
 
-// Each call of the report fails in turn: the lines before it stand, and the output holds the frames they name.
+/// The lines of the first three frames of a sound at 48 kHz and 192 kbit/s.
+const LINES: [&str; 3] = [
+    "frame 0 size 768 base\n",
+    "frame 1 size 768 base\n",
+    "frame 2 size 768 base\n",
+];
+
+/// What a run that a fault stopped leaves: whole frames of the plain run, lines of the report, and the status line.
+#[derive(Clone, Copy)]
+struct Stopped {
+    status: Status,
+    frames: usize,
+    lines: usize,
+    end: &'static str,
+}
+
+/// Whether a run left this, beside what the plain run left.
+fn stops_so(alloc: Global, left: &Left, plain: &Left, wanted: Stopped) -> Result<bool, AllocError> {
+    let mut report = Vec::new(alloc);
+    for line in LINES.iter().take(wanted.lines) {
+        report.extend_from_slice(line.as_bytes())?;
+    }
+    report.extend_from_slice(wanted.end.as_bytes())?;
+    let mut output = Vec::from_slice(alloc, &plain.output)?;
+    output.truncate(wanted.frames.saturating_mul(768));
+    Ok(
+        left.status == wanted.status
+            && left.output.as_slice() == output.as_slice()
+            && left.report.as_slice() == report.as_slice(),
+    )
+}
+
+/// What is left where this call of the output fails, over three frames.
+fn at_output(call: usize) -> Stopped {
+    Stopped {
+        status: Status::WriteFault,
+        frames: call,
+        lines: call,
+        end: "status 7 write fault\n",
+    }
+}
+
+/// What is left where this call of the report fails, over three frames: the last one is the status line's.
+fn at_report(call: usize) -> Stopped {
+    if call == 3 {
+        return Stopped {
+            status: Status::WriteFault,
+            frames: 3,
+            lines: 3,
+            end: "",
+        };
+    }
+    Stopped {
+        status: Status::WriteFault,
+        frames: call.saturating_add(1),
+        lines: call,
+        end: "status 7 write fault\n",
+    }
+}
+
+const DONE: Stopped = Stopped {
+    status: Status::Ok,
+    frames: 3,
+    lines: 3,
+    end: "status 0 ok\n",
+};
+
+const UNREAD: Stopped = Stopped {
+    status: Status::ReadFault,
+    frames: 0,
+    lines: 0,
+    end: "status 6 read fault\n",
+};
+
+// Over three frames of a sound each read of the input, each write of the output and each write of the report fails in turn,
+// up to the first that no run makes.
 #[test]
-fn failing_report(rt: HostRuntime) -> Result<(), Fail> {
+fn each_call_fails_in_turn(rt: HostRuntime) -> Result<(), Fail> {
     let words = words_of(rt.alloc(), "192")?;
-    for (call, frames, report) in [
-        (0u64, 1, "status 7 write fault\n"),
-        (1, 2, "frame 0 size 768 base\nstatus 7 write fault\n"),
-        (2, 2, "frame 0 size 768 base\nframe 1 size 768 base\n"),
-    ] {
+    let mut bytes = Vec::from_slice(rt.alloc(), &head_of(6000))?;
+    for place in 0..3000u32 {
+        let sample = (place * 7919 % 65536) as u16;
+        bytes.extend_from_slice(&sample.to_le_bytes())?;
+    }
+    let plain = left_by(rt.alloc(), &words, &bytes, NONE)?;
+    assert!(rt; stops_so(rt.alloc(), &plain, &plain, DONE)?);
+    assert_eq!(rt; plain.output.len(), 3 * 768);
+    let mut reads = 0u64;
+    for call in 0..20u64 {
         let failing = Failing {
-            report: &[call],
+            input: &[call],
             ..NONE
         };
-        let left = left_by(rt.alloc(), &words, &silence(rt.alloc(), 1281)?, failing)?;
-        assert_eq!(rt; left.status, Status::WriteFault, "at {call}");
-        assert_eq!(rt; left.output.len(), 768 * frames, "at {call}");
-        assert!(rt; left.report.as_slice() == report.as_bytes(), "at {call}");
+        let left = left_by(rt.alloc(), &words, &bytes, failing)?;
+        if left.status == Status::Ok {
+            break;
+        }
+        assert!(rt; stops_so(rt.alloc(), &left, &plain, UNREAD)?, "read {call}");
+        reads = call;
+    }
+    // The head is read in several pieces, and the data in as many as there are frames or more.
+    assert!(rt; reads > 3 && reads < 19, "{reads}");
+    for call in 0..4usize {
+        let failing = Failing {
+            output: &[call as u64],
+            ..NONE
+        };
+        let left = left_by(rt.alloc(), &words, &bytes, failing)?;
+        let wanted = if call < 3 { at_output(call) } else { DONE };
+        assert!(rt;
+            stops_so(rt.alloc(), &left, &plain, wanted)?,
+            "write {call}"
+        );
+    }
+    for call in 0..5usize {
+        let failing = Failing {
+            report: &[call as u64],
+            ..NONE
+        };
+        let left = left_by(rt.alloc(), &words, &bytes, failing)?;
+        let wanted = if call < 4 { at_report(call) } else { DONE };
+        assert!(rt; stops_so(rt.alloc(), &left, &plain, wanted)?, "line {call}");
     }
     Ok(())
 }

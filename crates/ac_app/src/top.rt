@@ -5,10 +5,10 @@ ghost use Rattle.ac_words.specs.Grammar.{InGrammar};
 ghost use Rattle.ac_app.specs.Input.{limit, IsInput, Refuses, IsTooLong};
 ghost use Rattle.ac_app.specs.Lines.{status_line};
 ghost use Rattle.ac_app.specs.World.{Held, Holds};
-ghost use Rattle.ac_app.specs.Run.{rate_asked, JobTakes, JobGives, Tail, answer_of, RunGives, IsDone};
+ghost use Rattle.ac_app.specs.Run.{rate_asked, counts, JobTakes, JobGives, Tail, answer_of, RunGives, IsDone};
 ghost use Rattle.ac_wav.specs.declared.fault.WavKind.{WavKind};
 ghost use Rattle.ac_wav.specs.declared.head.WavHead.{WavHead};
-ghost use Rattle.ac_app.specs.declared.status.Status.TheVariants.{Usage, BadWav, ReadFault, WriteFault, NoMemory, TooLong};
+ghost use Rattle.ac_app.specs.declared.status.Status.TheVariants.{Ok, Usage, BadWav, ReadFault, WriteFault, NoMemory, TooLong};
 
 use crate::encode::encode;
 use crate::lines;
@@ -36,9 +36,10 @@ fn job<S: Source, O: Sink, N: Sink>(
 ) -> Status
     ensures takes { (bytes : List ℕ) → S.left input.old ≡ Some bytes → JobTakes (map string_bytes words.now) result bytes (S.left input.new) }
     ensures gives { (bytes : List ℕ) (h : Held) → S.left input.old ≡ Some bytes → Holds h (O.held output.old) (N.held report.old)
-        → JobGives (map string_bytes words.now) result bytes h (O.held output.new) (N.held report.new) }
+        → JobGives (map string_bytes words.now) result bytes (counts (O.faults output.old) (N.faults report.old)) (counts (O.faults output.new) (N.faults report.new)) h (O.held output.new) (N.held report.new) }
     ensures usage { result ≡ Status.Usage → InGrammar (map string_bytes words.now) → ⊥ }
     ensures untouched { result ≡ Status.Usage → input.new ≡ input.old }
+    ensures unwritten { result ≢ Status.Ok → result ≢ Status.WriteFault → (output.new ≡ output.old) × (report.new ≡ report.old) }
     ensures read { result ≡ Status.ReadFault → Rose (S.faults input.old) (S.faults input.new) }
     ensures write { result ≡ Status.WriteFault → Rose (O.faults output.old) (O.faults output.new) ⊎ Rose (N.faults report.old) (N.faults report.new) }
     ensures inside { (result ≡ Status.Usage) ⊎ ((result ≡ Status.NoMemory) ⊎ InGrammar (map string_bytes words.now)) }
@@ -91,13 +92,15 @@ pub fn run<S: Source, O: Sink, N: Sink>(
         → IsDone (map string_bytes words.now) bytes h (S.left input.new) (O.held output.new) (N.held report.new) }
     // What every answer leaves in the output and the report.
     ensures gives { (bytes : List ℕ) (h : Held) → S.left input.old ≡ Some bytes → Holds h (O.held output.old) (N.held report.old)
-        → RunGives (map string_bytes words.now) result bytes h (O.held output.new) (N.held report.new) }
+        → RunGives (map string_bytes words.now) result bytes (counts (O.faults output.old) (N.faults report.old)) (counts (O.faults output.new) (N.faults report.new)) h (O.held output.new) (N.held report.new) }
     // Each answer's cause, and what it takes of the input.
     ensures takes { (bytes : List ℕ) → S.left input.old ≡ Some bytes → JobTakes (map string_bytes words.now) result bytes (S.left input.new) }
     // Usage exactly outside the grammar, and then nothing is read.
     ensures usage { result ≡ Status.Usage → InGrammar (map string_bytes words.now) → ⊥ }
     ensures outside { (InGrammar (map string_bytes words.now) → ⊥) → (result ≡ Status.Usage) ⊎ (result ≡ Status.NoMemory) }
     ensures untouched { result ≡ Status.Usage → input.new ≡ input.old }
+    // Nothing is written to the output before a refusal, whatever the objects tell.
+    ensures unwritten { result ≢ Status.Ok → result ≢ Status.WriteFault → output.new ≡ output.old }
     // A refusal of the bytes comes where they ask for it, unless the input or memory failed first.
     ensures refused { (bytes : List ℕ) (kind : WavKind) (place : ℕ) → S.left input.old ≡ Some bytes → InGrammar (map string_bytes words.now) → Refuses bytes kind place
         → result ≢ Status.ReadFault → result ≢ Status.NoMemory → result ≡ Status.BadWav kind place }

@@ -1,4 +1,6 @@
-use Rattle.ac_app.proofs.Ends.{run_takes, run_gives, is_done, refused_is, too_long_is, complete_is}
+use Rattle.std.proofs.Common.{arith}
+use Rattle.ac_app.specs.Run.{counts}
+use Rattle.ac_app.proofs.Ends.{run_takes, run_gives, cut_rose, is_done, refused_is, too_long_is, complete_is}
 use Rattle.ac_app.proofs.top.run.Goals as goal
 
 pub returns-clause-takes : goal.returns-clause-takes
@@ -7,11 +9,15 @@ returns-clause-takes g c = λ bytes told.
 
 pub returns-clause-gives : goal.returns-clause-gives
 returns-clause-gives g c = λ bytes h told holds.
-    run_gives _ c.job-status.result c.answer.result c.tell-whole.result bytes h _ _ _ c.answer.ensures (c.job-status.ensures.gives bytes h told holds) c.tell-whole.ensures.line
+    let old = counts (g.O.Sink.faults c.args.output.now) (g.N.Sink.faults c.args.report.now) in
+    let between = counts (g.O.Sink.faults c.job-status.new.output) (g.N.Sink.faults c.job-status.new.report) in
+    let now = counts (g.O.Sink.faults c.job-status.new.output) (g.N.Sink.faults c.tell-whole.new.report) in
+    let cut = cut_rose old between now c.tell-whole.result c.job-status.ensures.report_count c.tell-whole.ensures.failed in
+    run_gives _ c.job-status.result c.answer.result c.tell-whole.result bytes old between now h _ _ _ c.answer.ensures (omega arith) c.tell-whole.ensures.report_count (c.job-status.ensures.gives bytes h told holds) c.tell-whole.ensures.line cut
 
 pub returns-clause-ok : goal.returns-clause-ok
 returns-clause-ok g c = λ bytes h told holds.
-    is_done _ c.answer.result bytes h _ _ _ (returns-clause-takes g c bytes told) (returns-clause-gives g c bytes h told holds)
+    is_done _ c.answer.result bytes _ _ h _ _ _ (returns-clause-takes g c bytes told) (returns-clause-gives g c bytes h told holds)
 
 pub returns-clause-refused : goal.returns-clause-refused
 returns-clause-refused g c = λ bytes kind place told.
