@@ -233,7 +233,7 @@ fn head(format: &Format, samples: &Samples) -> WavHead
 }
 
 impl WavHead {
-    /// Reads a WAV to the first byte of its data.
+    /// Reads a WAV to the first byte of its data. Takes at most `limit` + 1 bytes, whatever it answers.
     ///
     /// # Errors
     ///

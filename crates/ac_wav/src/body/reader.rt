@@ -39,6 +39,7 @@ impl WavBody {
 
     /// The next samples of each coded channel, in coding order with LFE last, of 24 bits; zeros stand behind them.
     /// Gives their number. Below 1,536 it is the end of the data, and from then on it is 0, without a read.
+    /// With the bytes taken before, at most the limit and one byte more are taken, whatever it answers.
     ///
     /// # Errors
     ///
