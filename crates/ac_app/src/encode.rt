@@ -1,8 +1,10 @@
 //! The command encode.
-ghost use Rattle.std.specs.Prelude.{◌≡◌, ◌≢◌, ◌⊎◌, ℕ, ◌≤◌, ◌<◌, ◌^◌, List, length, Option, Some};
+ghost use Rattle.std.specs.Prelude.{◌≡◌, ◌≢◌, ◌⊎◌, ℕ, ◌+◌, ◌≤◌, ◌<◌, ◌^◌, List, length, Option, Some};
 ghost use Rattle.ac_base.specs.Sigma.{Within};
 ghost use Rattle.ac_io.specs.Outside.{Rose};
 ghost use Rattle.ac_base.specs.Rates.{IsRate};
+ghost use Rattle.ac_wav.specs.Pieces.{TakesAtMost};
+ghost use Rattle.ac_app.specs.Input.{limit};
 ghost use Rattle.ac_app.specs.Sound.{Sound, AreSamples};
 ghost use Rattle.ac_app.specs.World.{Held, Holds};
 ghost use Rattle.ac_app.specs.Run.{counts, StreamLeaves, EncodeTakes, EncodeGives};
@@ -60,6 +62,7 @@ pub fn encode<S: Source, O: Sink, N: Sink>(
         → EncodeGives rate result bytes (counts (O.faults output.old) (N.faults report.old)) (counts (O.faults output.new) (N.faults report.new)) h (O.held output.new) (N.held report.new) }
     ensures not_usage { result ≢ Status.Usage }
     ensures unwritten { result ≢ Status.Ok → result ≢ Status.WriteFault → (output.new ≡ output.old) × (report.new ≡ report.old) }
+    ensures most_read { (bytes : List ℕ) → S.left input.old ≡ Some bytes → TakesAtMost bytes (limit + 1) (S.left input.new) }
     ensures read { result ≡ Status.ReadFault → Rose (S.faults input.old) (S.faults input.new) }
     ensures write { result ≡ Status.WriteFault → Rose (O.faults output.old) (O.faults output.new) ⊎ Rose (N.faults report.old) (N.faults report.new) }
     ensures input_count { S.faults input.old ≤ S.faults input.new }

@@ -3,6 +3,7 @@ ghost use Rattle.std.specs.Prelude.{◌≡◌, ℕ, ◌+◌, ◌-◌, ◌<◌, �
 ghost use Rattle.ac_base.specs.Sigma.{Within};
 ghost use Rattle.ac_io.specs.Outside.{Rose};
 ghost use Rattle.ac_wav.specs.Form.{IsOfProfile};
+ghost use Rattle.ac_wav.specs.Pieces.{TakesAtMost};
 ghost use Rattle.ac_wav.specs.Refusal.{HeadRead};
 ghost use Rattle.ac_app.specs.Input.{limit, IsMono, HasRead, IsStopped, AllRead};
 ghost use Rattle.ac_app.specs.declared.input.Fault.TheVariants as faults;
@@ -76,6 +77,7 @@ fn gather<S: Source>(alloc: Global, head: &WavHead, input: &mut S) -> Result<Vec
         (λ v. AllRead bytes head.now v.items (S.left input.new)) (IsStopped bytes) }
     ensures bound { IfOk result (λ v. Within (2 ^ 23) (length v.items) v.items) }
     ensures count { IfOk result (λ v. length v.items < 2 ^ 27) }
+    ensures most_read { (bytes : List ℕ) → HeadRead bytes limit head.now (S.left input.old) → TakesAtMost bytes (limit + 1) (S.left input.new) }
     ensures read { IsErrOf result (faults.Wav wav_faults.ReadFault) → Rose (S.faults input.old) (S.faults input.new) }
     ensures never_falls { S.faults input.old ≤ S.faults input.new }
 {
@@ -98,6 +100,7 @@ pub fn read_input<S: Source>(alloc: Global, input: &mut S) -> Result<Gathered, F
     ensures sampling { IfOk result (λ g. g.fscod ≤ 2) }
     ensures bound { IfOk result (λ g. Within (2 ^ 23) (length g.samples.items) g.samples.items) }
     ensures count { IfOk result (λ g. length g.samples.items < 2 ^ 27) }
+    ensures most_read { (bytes : List ℕ) → S.left input.old ≡ Some bytes → TakesAtMost bytes (limit + 1) (S.left input.new) }
     ensures read { IsErrOf result (faults.Wav wav_faults.ReadFault) → Rose (S.faults input.old) (S.faults input.new) }
     ensures never_falls { S.faults input.old ≤ S.faults input.new }
 {

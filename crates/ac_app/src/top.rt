@@ -1,11 +1,12 @@
 //! The top call.
-ghost use Rattle.std.specs.Prelude.{◌≡◌, ◌≢◌, ◌⊎◌, ℕ, ◌≤◌, Bool, false, List, ◌++◌, Option, Some, map, string_bytes};
+ghost use Rattle.std.specs.Prelude.{◌≡◌, ◌≢◌, ◌⊎◌, ℕ, ◌+◌, ◌≤◌, Bool, false, List, ◌++◌, Option, Some, map, string_bytes};
 ghost use Rattle.ac_io.specs.Outside.{Rose};
 ghost use Rattle.ac_words.specs.Grammar.{InGrammar};
 ghost use Rattle.ac_app.specs.Input.{limit, IsInput, Refuses, IsTooLong};
 ghost use Rattle.ac_app.specs.Lines.{status_line};
 ghost use Rattle.ac_app.specs.World.{Held, Holds};
 ghost use Rattle.ac_app.specs.Run.{rate_asked, counts, JobTakes, JobGives, Tail, answer_of, RunGives, IsDone};
+ghost use Rattle.ac_wav.specs.Pieces.{TakesAtMost};
 ghost use Rattle.ac_wav.specs.declared.fault.WavKind.{WavKind};
 ghost use Rattle.ac_wav.specs.declared.head.WavHead.{WavHead};
 ghost use Rattle.ac_app.specs.declared.status.Status.TheVariants.{Ok, Usage, BadWav, ReadFault, WriteFault, NoMemory, TooLong};
@@ -40,6 +41,7 @@ fn job<S: Source, O: Sink, N: Sink>(
     ensures usage { result ≡ Status.Usage → InGrammar (map string_bytes words.now) → ⊥ }
     ensures untouched { result ≡ Status.Usage → input.new ≡ input.old }
     ensures unwritten { result ≢ Status.Ok → result ≢ Status.WriteFault → (output.new ≡ output.old) × (report.new ≡ report.old) }
+    ensures most_read { (bytes : List ℕ) → S.left input.old ≡ Some bytes → TakesAtMost bytes (limit + 1) (S.left input.new) }
     ensures read { result ≡ Status.ReadFault → Rose (S.faults input.old) (S.faults input.new) }
     ensures write { result ≡ Status.WriteFault → Rose (O.faults output.old) (O.faults output.new) ⊎ Rose (N.faults report.old) (N.faults report.new) }
     ensures inside { (result ≡ Status.Usage) ⊎ ((result ≡ Status.NoMemory) ⊎ InGrammar (map string_bytes words.now)) }
@@ -95,6 +97,8 @@ pub fn run<S: Source, O: Sink, N: Sink>(
         → RunGives (map string_bytes words.now) result bytes (counts (O.faults output.old) (N.faults report.old)) (counts (O.faults output.new) (N.faults report.new)) h (O.held output.new) (N.held report.new) }
     // Each answer's cause, and what it takes of the input.
     ensures takes { (bytes : List ℕ) → S.left input.old ≡ Some bytes → JobTakes (map string_bytes words.now) result bytes (S.left input.new) }
+    // At most one byte past the limit is taken of the input, whatever the answer.
+    ensures most_read { (bytes : List ℕ) → S.left input.old ≡ Some bytes → TakesAtMost bytes (limit + 1) (S.left input.new) }
     // Usage exactly outside the grammar, and then nothing is read.
     ensures usage { result ≡ Status.Usage → InGrammar (map string_bytes words.now) → ⊥ }
     ensures outside { (InGrammar (map string_bytes words.now) → ⊥) → (result ≡ Status.Usage) ⊎ (result ≡ Status.NoMemory) }

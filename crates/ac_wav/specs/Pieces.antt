@@ -1,5 +1,5 @@
 -- What the pieces that are read tell of the whole list.
-use Rattle.std.specs.Prelude.{◌≡◌, ◌≢◌, ℕ, ◌+◌, ◌≤◌, ◌<◌, List, length, take, drop, codes, Option, Some}
+use Rattle.std.specs.Prelude.{◌≡◌, ◌≢◌, ℕ, ◌+◌, ◌≤◌, ◌<◌, List, length, take, drop, codes, Option, Some, None}
 use Rattle.ac_wav.specs.declared.fault.WavKind.TheVariants.{Short, NotRiff, NoFmt, NoData, BadFmt, Unsupported, NotYet}
 use Rattle.ac_wav.specs.declared.fault.WavFault.{WavFault}
 use Rattle.ac_wav.specs.declared.fault.WavFault.TheVariants.{Bad, ReadFault, TooLong}
@@ -16,6 +16,11 @@ use Rattle.ac_wav.specs.Form.{name_of, size_of, whole_length, body_of, IsFormatt
 pub record IsAt (bytes : List ℕ) (place : ℕ) (left : Option (List ℕ)) : Type 0 where
   pub within : place ≤ length bytes
   pub left_is : left ≡ Some (drop place bytes)
+
+-- at most this many of the first bytes were taken, where the source still tells what is left
+abbrev pub TakesAtMost : List ℕ → ℕ → Option (List ℕ) → Type 0
+TakesAtMost bytes most None = Unit {0}
+TakesAtMost bytes most (Some rest) = (k : ℕ) × (k ≤ most) × (k ≤ length bytes) × (rest ≡ drop k bytes)
 
 -- all n bytes that were there were read into the front of a piece
 pub record ReadsAll (bytes : List ℕ) (n : ℕ) (piece : List ℕ) (left : Option (List ℕ)) : Type 0 where

@@ -2,7 +2,7 @@
 ghost use Rattle.std.specs.Prelude.{◌≡◌, ℕ, ◌+◌, ◌*◌, ◌≤◌, List, IfOk, MatchResult, IsErrOf};
 ghost use Rattle.ac_io.specs.Outside.{Rose};
 ghost use Rattle.ac_wav.specs.Form.{IsOfProfile};
-ghost use Rattle.ac_wav.specs.Pieces.{IsAt};
+ghost use Rattle.ac_wav.specs.Pieces.{IsAt, TakesAtMost};
 ghost use Rattle.ac_wav.specs.Samples.{align_of, frame_bytes, part_of, RowsWithin, RowsAre, SamplesRead, IsUnsampled, IsStanding, PartRead};
 ghost use Rattle.ac_wav.specs.declared.fault.WavFault.{WavFault};
 
@@ -53,6 +53,7 @@ fn read_part<S: Source>(
     ensures stands { IfOk result (λ n. IsStanding head.now (taken + n)) }
     ensures told { (bytes : List ℕ) → IsAt bytes taken (S.left input.old) → MatchResult result
         (λ n. PartRead bytes head.now taken n piece.new (S.left input.new)) (IsUnsampled bytes head.now taken limit) }
+    ensures takes { (bytes : List ℕ) → IsAt bytes taken (S.left input.old) → TakesAtMost bytes (limit + 1) (S.left input.new) }
     ensures failed { IsErrOf result WavFault.ReadFault → Rose (S.faults input.old) (S.faults input.new) }
     ensures never_falls { S.faults input.old ≤ S.faults input.new }
 {
@@ -86,6 +87,7 @@ fn read_samples<S: Source>(
     ensures bound { IfOk result (λ _. RowsWithin out.new) }
     ensures told { (bytes : List ℕ) («from» : ℕ) → IsAt bytes taken (S.left input.old) → taken ≡ head.now.taken + «from» * align_of head.now → MatchResult result
         (λ piece. SamplesRead bytes head.now taken «from» (taken + piece.bytes) piece.samples out.new (S.left input.new)) (IsUnsampled bytes head.now taken limit) }
+    ensures takes { (bytes : List ℕ) → IsAt bytes taken (S.left input.old) → TakesAtMost bytes (limit + 1) (S.left input.new) }
     ensures failed { IsErrOf result WavFault.ReadFault → Rose (S.faults input.old) (S.faults input.new) }
     ensures never_falls { S.faults input.old ≤ S.faults input.new }
 {

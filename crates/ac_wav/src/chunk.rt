@@ -2,7 +2,7 @@
 ghost use Rattle.std.specs.Prelude.{◌≡◌, ℕ, ◌+◌, ◌≤◌, ◌<◌, List, length, drop, IfOk, MatchResult, IsErrOf};
 ghost use Rattle.ac_io.specs.Outside.{Rose};
 ghost use Rattle.ac_wav.specs.Form.{padded, name_of, size_of};
-ghost use Rattle.ac_wav.specs.Pieces.{IsAt, NameIs, ChunkRead, IsNoChunk};
+ghost use Rattle.ac_wav.specs.Pieces.{IsAt, NameIs, ChunkRead, IsNoChunk, TakesAtMost};
 
 use crate::fault::{WavFault, WavKind};
 use crate::pieces::read_within;
@@ -75,6 +75,7 @@ pub fn read_chunk_head<S: Source>(
     ensures within { IfOk result (λ _. place + 8 ≤ limit) }
     ensures told { (bytes : List ℕ) → IsAt bytes place (S.left input.old) → MatchResult result
         (λ chunk. ChunkRead bytes place chunk (S.left input.new)) (IsNoChunk bytes place limit) }
+    ensures takes { (bytes : List ℕ) → IsAt bytes place (S.left input.old) → TakesAtMost bytes (limit + 1) (S.left input.new) }
     ensures failed { IsErrOf result WavFault.ReadFault → Rose (S.faults input.old) (S.faults input.new) }
     ensures never_falls { S.faults input.old ≤ S.faults input.new }
 {

@@ -4,7 +4,7 @@ ghost use Rattle.ac_io.specs.Outside.{Rose};
 ghost use Rattle.ac_wav.specs.Format.{fields_of, fault_of, fscod_of, IsFine};
 ghost use Rattle.ac_wav.specs.Form.{name_of, size_of, padded, whole_length, IsRiff, IsOpen, IsFormatted, IsDataAt, head_of, data_size, IsOfProfile};
 ghost use Rattle.ac_wav.specs.Refusal.{Reaches, IsNoRiff, IsStopped, HeadRead, ReadsExactly};
-ghost use Rattle.ac_wav.specs.Pieces.{IsAt, ReadsOn, IsUntaken, ChunkRead, FormatRead, IsFound, DataFound};
+ghost use Rattle.ac_wav.specs.Pieces.{IsAt, ReadsOn, IsUntaken, ChunkRead, FormatRead, IsFound, DataFound, TakesAtMost};
 ghost use Rattle.ac_wav.specs.declared.fault.WavFault.{WavFault};
 
 use crate::chunk::{ChunkHead, Name, read_chunk_head};
@@ -67,6 +67,7 @@ fn read_riff<S: Source>(input: &mut S, limit: u64) -> Result<(), WavFault>
     ensures within { OnOk result (12 ≤ limit) }
     ensures told { (bytes : List ℕ) → S.left input.old ≡ Some bytes → MatchResult result
         (λ _. IsRiff bytes × IsAt bytes 12 (S.left input.new)) (IsStopped bytes limit) }
+    ensures takes { (bytes : List ℕ) → S.left input.old ≡ Some bytes → TakesAtMost bytes (limit + 1) (S.left input.new) }
     ensures failed { IsErrOf result WavFault.ReadFault → Rose (S.faults input.old) (S.faults input.new) }
     ensures never_falls { S.faults input.old ≤ S.faults input.new }
 {
@@ -90,6 +91,7 @@ fn read_format<S: Source>(
     ensures told { (bytes : List ℕ) → IsAt bytes (place + 8) (S.left input.old) → size ≡ size_of (drop place bytes) → MatchResult result
         (λ format. FormatRead bytes place format (S.left input.new)) (IsUntaken bytes (place + 8) (padded size) limit) }
     ensures size { IfOk result (λ format. format.size ≡ size) }
+    ensures takes { (bytes : List ℕ) → IsAt bytes (place + 8) (S.left input.old) → TakesAtMost bytes (limit + 1) (S.left input.new) }
     ensures failed { IsErrOf result WavFault.ReadFault → Rose (S.faults input.old) (S.faults input.new) }
     ensures never_falls { S.faults input.old ≤ S.faults input.new }
 {
@@ -108,6 +110,7 @@ fn accept<S: Source>(input: &mut S, place: u64, limit: u64, size: u32) -> Result
     ensures fine { IfOk result (λ found. fault_of found.format ≡ None) }
     ensures told { (bytes : List ℕ) → IsOpen bytes place → IsAt bytes (place + 8) (S.left input.old) → name_of (drop place bytes) ≡ codes "fmt "
         → size ≡ size_of (drop place bytes) → MatchResult result (λ found. IsFound bytes found (S.left input.new)) (IsStopped bytes limit) }
+    ensures takes { (bytes : List ℕ) → IsAt bytes (place + 8) (S.left input.old) → TakesAtMost bytes (limit + 1) (S.left input.new) }
     ensures failed { IsErrOf result WavFault.ReadFault → Rose (S.faults input.old) (S.faults input.new) }
     ensures never_falls { S.faults input.old ≤ S.faults input.new }
 {
@@ -133,6 +136,7 @@ fn pass_chunk<S: Source>(
     ensures within { IfOk result (λ end. end ≤ limit) }
     ensures told { (bytes : List ℕ) → Reaches bytes place → IsAt bytes (place + 8) (S.left input.old) → name_of (drop place bytes) ≢ codes "data"
         → chunk.now.size ≡ size_of (drop place bytes) → MatchResult result (λ end. IsAt bytes end (S.left input.new)) (IsStopped bytes limit) }
+    ensures takes { (bytes : List ℕ) → IsAt bytes (place + 8) (S.left input.old) → TakesAtMost bytes (limit + 1) (S.left input.new) }
     ensures failed { IsErrOf result WavFault.ReadFault → Rose (S.faults input.old) (S.faults input.new) }
     ensures never_falls { S.faults input.old ≤ S.faults input.new }
 {
@@ -148,6 +152,7 @@ fn find_format<S: Source>(input: &mut S, limit: u64) -> Result<Found, WavFault>
     ensures fine { IfOk result (λ found. fault_of found.format ≡ None) }
     ensures told { (bytes : List ℕ) → IsOpen bytes 12 → IsAt bytes 12 (S.left input.old) → MatchResult result
         (λ found. IsFound bytes found (S.left input.new)) (IsStopped bytes limit) }
+    ensures takes { (bytes : List ℕ) → IsOpen bytes 12 → IsAt bytes 12 (S.left input.old) → TakesAtMost bytes (limit + 1) (S.left input.new) }
     ensures failed { IsErrOf result WavFault.ReadFault → Rose (S.faults input.old) (S.faults input.new) }
     ensures never_falls { S.faults input.old ≤ S.faults input.new }
 {
@@ -168,6 +173,7 @@ fn find_samples<S: Source>(input: &mut S, start: u64, limit: u64) -> Result<Samp
     ensures within { IfOk result (λ samples. samples.place ≤ limit) }
     ensures told { (bytes chunk : List ℕ) → IsFormatted bytes chunk start → IsAt bytes start (S.left input.old) → MatchResult result
         (λ samples. DataFound bytes chunk samples (S.left input.new)) (IsStopped bytes limit) }
+    ensures takes { (bytes chunk : List ℕ) → IsFormatted bytes chunk start → IsAt bytes start (S.left input.old) → TakesAtMost bytes (limit + 1) (S.left input.new) }
     ensures failed { IsErrOf result WavFault.ReadFault → Rose (S.faults input.old) (S.faults input.new) }
     ensures never_falls { S.faults input.old ≤ S.faults input.new }
 {
@@ -227,7 +233,7 @@ fn head(format: &Format, samples: &Samples) -> WavHead
 }
 
 impl WavHead {
-    /// Reads a WAV to the first byte of its data.
+    /// Reads a WAV to the first byte of its data. Takes at most `limit` + 1 bytes, whatever it answers.
     ///
     /// # Errors
     ///
@@ -239,6 +245,7 @@ impl WavHead {
         ensures exact { (bytes : List ℕ) → S.left input.old ≡ Some bytes → result ≢ Err WavFault.ReadFault → ReadsExactly bytes limit result }
         ensures profile { IfOk result (λ head. IsOfProfile head) }
         ensures within { IfOk result (λ head. head.taken ≤ limit) }
+        ensures takes { (bytes : List ℕ) → S.left input.old ≡ Some bytes → TakesAtMost bytes (limit + 1) (S.left input.new) }
         ensures failed { IsErrOf result WavFault.ReadFault → Rose (S.faults input.old) (S.faults input.new) }
         ensures never_falls { S.faults input.old ≤ S.faults input.new }
     {

@@ -1,7 +1,7 @@
 //! Pieces of the input, up to a limit.
 ghost use Rattle.std.specs.Prelude.{◌≡◌, ℕ, ◌+◌, ◌-◌, ◌≤◌, ◌<◌, ◌↔◌, ◌⊎◌, IsTrue, List, length, Option, Some, IfOk, IfErr, OnOk, OnErr, MatchResult, IfSome, IsErrOf};
 ghost use Rattle.ac_io.specs.Outside.{Rose, ReadsFront};
-ghost use Rattle.ac_wav.specs.Pieces.{IsAt, ReadsAll, IsLonger, ReadsOn, IsUnread, IsUntaken};
+ghost use Rattle.ac_wav.specs.Pieces.{IsAt, ReadsAll, IsLonger, ReadsOn, IsUnread, IsUntaken, TakesAtMost};
 
 use crate::fault::{WavFault, WavKind};
 use ac_io::{Source, fill};
@@ -15,6 +15,7 @@ fn read_piece<S: Source>(input: &mut S, into: &mut [u8]) -> Result<usize, WavFau
     ensures front { IfOk result (λ n. ReadsFront (S.left input.old) (S.left input.new) into.new n) }
     ensures end { IfOk result (λ n. n < length into.old → IfSome (S.left input.old) (λ bytes. n ≡ length bytes)) }
     ensures kind { IfErr result (λ fault. fault ≡ WavFault.ReadFault) }
+    ensures takes { (bytes : List ℕ) → S.left input.old ≡ Some bytes → TakesAtMost bytes (length into.old) (S.left input.new) }
     ensures failed { OnErr result (Rose (S.faults input.old) (S.faults input.new)) }
     ensures never_falls { S.faults input.old ≤ S.faults input.new }
 {
@@ -29,6 +30,7 @@ fn read_to_limit<S: Source>(input: &mut S, into: &mut [u8]) -> Result<usize, Wav
     ensures count { IfOk result (λ n. n ≤ length into.old) }
     ensures told { (bytes : List ℕ) → S.left input.old ≡ Some bytes → MatchResult result
         (λ n. ReadsAll bytes n into.new (S.left input.new)) (IsLonger bytes (length into.old)) }
+    ensures takes { (bytes : List ℕ) → S.left input.old ≡ Some bytes → TakesAtMost bytes (length into.old + 1) (S.left input.new) }
     ensures failed { IsErrOf result WavFault.ReadFault → Rose (S.faults input.old) (S.faults input.new) }
     ensures never_falls { S.faults input.old ≤ S.faults input.new }
 {
@@ -60,6 +62,7 @@ pub fn read_within<S: Source>(
     ensures within { IfOk result (λ n. taken + n ≤ limit) }
     ensures told { (bytes : List ℕ) → IsAt bytes taken (S.left input.old) → MatchResult result
         (λ n. ReadsOn bytes taken n into.new (S.left input.new)) (IsUnread bytes taken (length into.old) limit) }
+    ensures takes { (bytes : List ℕ) → IsAt bytes taken (S.left input.old) → TakesAtMost bytes (limit + 1) (S.left input.new) }
     ensures failed { IsErrOf result WavFault.ReadFault → Rose (S.faults input.old) (S.faults input.new) }
     ensures never_falls { S.faults input.old ≤ S.faults input.new }
 {
@@ -85,6 +88,7 @@ pub fn read_exact<S: Source>(
     ensures within { OnOk result (taken + length into.old ≤ limit) }
     ensures told { (bytes : List ℕ) → IsAt bytes taken (S.left input.old) → MatchResult result
         (λ _. ReadsOn bytes taken (length into.old) into.new (S.left input.new)) (IsUntaken bytes taken (length into.old) limit) }
+    ensures takes { (bytes : List ℕ) → IsAt bytes taken (S.left input.old) → TakesAtMost bytes (limit + 1) (S.left input.new) }
     ensures failed { IsErrOf result WavFault.ReadFault → Rose (S.faults input.old) (S.faults input.new) }
     ensures never_falls { S.faults input.old ≤ S.faults input.new }
 {
@@ -110,6 +114,7 @@ pub fn pass_over<S: Source>(
     ensures within { OnOk result (taken + count ≤ limit) }
     ensures told { (bytes : List ℕ) → IsAt bytes taken (S.left input.old) → MatchResult result
         (λ _. IsAt bytes (taken + count) (S.left input.new)) (IsUntaken bytes taken count limit) }
+    ensures takes { (bytes : List ℕ) → IsAt bytes taken (S.left input.old) → TakesAtMost bytes (limit + 1) (S.left input.new) }
     ensures failed { IsErrOf result WavFault.ReadFault → Rose (S.faults input.old) (S.faults input.new) }
     ensures never_falls { S.faults input.old ≤ S.faults input.new }
 {

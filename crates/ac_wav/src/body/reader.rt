@@ -2,7 +2,7 @@
 ghost use Rattle.std.specs.Prelude.{◌≡◌, ◌≢◌, ℕ, ◌+◌, ◌≤◌, List, nat_lt, Option, Some, None, IfOk, IfErr, MatchResult, IsErrOf, true, Ok, Err, replicate, pos, ◌||◌};
 ghost use Rattle.ac_io.specs.Outside.{Rose};
 ghost use Rattle.ac_wav.specs.Form.{IsOfProfile};
-ghost use Rattle.ac_wav.specs.Pieces.{IsAt};
+ghost use Rattle.ac_wav.specs.Pieces.{IsAt, TakesAtMost};
 ghost use Rattle.ac_wav.specs.Samples.{RowsWithin, SamplesRead, IsUnsampled, StopsExactly};
 ghost use Rattle.ac_wav.specs.Body.{head_in, limit_of, taken_by, is_ended, kept_by, IsBehind};
 ghost use Rattle.ac_wav.specs.declared.fault.WavFault.{WavFault};
@@ -39,6 +39,7 @@ impl WavBody {
 
     /// The next samples of each coded channel, in coding order with LFE last, of 24 bits; zeros stand behind them.
     /// Gives their number. Below 1,536 it is the end of the data, and from then on it is 0, without a read.
+    /// With the bytes taken before, at most the limit and one byte more are taken, whatever it answers.
     ///
     /// # Errors
     ///
@@ -66,6 +67,7 @@ impl WavBody {
         ensures keeps { IfErr result (λ fault. kept_by self.new ≡ Some fault) }
         ensures refused { (fault : WavFault) → kept_by self.old ≡ Some fault → (result ≡ Err fault) × (self.new ≡ self.old) × (input.new ≡ input.old) × (out.new ≡ out.old) }
         ensures over { kept_by self.old ≡ None → is_ended self.old ≡ true → (result ≡ Ok 0) × (self.new ≡ self.old) × (input.new ≡ input.old) × (out.new ≡ replicate 6 (replicate 1536 (pos 0))) }
+        ensures takes { (bytes : List ℕ) → IsAt bytes (taken_by self.old) (S.left input.old) → TakesAtMost bytes (limit_of self.old + 1) (S.left input.new) }
         ensures failed { kept_by self.old ≡ None → IsErrOf result WavFault.ReadFault → Rose (S.faults input.old) (S.faults input.new) }
         ensures never_falls { S.faults input.old ≤ S.faults input.new }
     {

@@ -1,5 +1,6 @@
-use Rattle.std.proofs.Common.{◌≡◌, ◌+◌, ◌≤◌, refl, sym, subst, ◌∙◌, arith, length, lit<}
+use Rattle.std.proofs.Common.{ℕ, ◌≡◌, ◌+◌, ◌≤◌, refl, sym, subst, ◌∙◌, arith, length, lit<}
 use Rattle.std.proofs.lemmas.Result.{err_from_is_err_and}
+use Rattle.ac_wav.specs.Pieces.{TakesAtMost}
 use Rattle.ac_wav.specs.Body.{head_in, taken_by, IsBehind}
 use Rattle.ac_app.specs.Input.{limit}
 use Rattle.ac_app.proofs.Gathers.{none_yet, whole_piece, last_piece, unsampled, within_more, none_within, some_align, at_first, behind_head, further, few}
@@ -74,3 +75,18 @@ loop-samples-preserved g c =
       bound = within_more c.loop-samples.samples.items _ _ c.in_ok-n.n c.in_ok-add_front.ensures.added c.in_ok-add_front.ensures.count i.bound (λ t below. c.in_ok-n.ensures.bound 0 (lit< tt) t (omega (arith, below, full)));
       never_falls = omega (arith, i.never_falls, c.in_ok-n.ensures.never_falls);
     }
+
+pub returns-in_err-n-clause-most_read : goal.returns-in_err-n-clause-most_read
+returns-in_err-n-clause-most_read g c = λ bytes h.
+    let i = c.loop-samples.invariant in
+    subst (λ (m : ℕ). TakesAtMost bytes (m + 1) (g.S.Source.left c.samples.new.input)) i.limit_is (c.in_err-n.ensures.takes bytes (i.told bytes h).at)
+
+pub returns-in_err-add_front-clause-most_read : goal.returns-in_err-add_front-clause-most_read
+returns-in_err-add_front-clause-most_read g c = λ bytes h.
+    let i = c.loop-samples.invariant in
+    subst (λ (m : ℕ). TakesAtMost bytes (m + 1) (g.S.Source.left c.samples.new.input)) i.limit_is (c.in_ok-n.ensures.takes bytes (i.told bytes h).at)
+
+pub returns-then-n-lt1536-clause-most_read : goal.returns-then-n-lt1536-clause-most_read
+returns-then-n-lt1536-clause-most_read g c = λ bytes h.
+    let i = c.loop-samples.invariant in
+    subst (λ (m : ℕ). TakesAtMost bytes (m + 1) (g.S.Source.left c.samples.new.input)) i.limit_is (c.in_ok-n.ensures.takes bytes (i.told bytes h).at)

@@ -25,3 +25,9 @@ returns-clause-told g c = λ bytes e.
       fscod = refl;
       all = c.in_ok-samples.ensures.told bytes (c.in_ok-head.ensures.told bytes e);
     }
+
+pub returns-in_err-samples-clause-most_read : goal.returns-in_err-samples-clause-most_read
+returns-in_err-samples-clause-most_read g c = λ bytes e. c.in_err-samples.ensures.most_read bytes (c.in_ok-head.ensures.told bytes e)
+
+pub returns-clause-most_read : goal.returns-clause-most_read
+returns-clause-most_read g c = λ bytes e. c.in_ok-samples.ensures.most_read bytes (c.in_ok-head.ensures.told bytes e)

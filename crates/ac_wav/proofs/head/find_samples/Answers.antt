@@ -37,3 +37,15 @@ loop-chunk-preserved g c = record {
       (formatted_next bytes chunk c.loop-chunk.place c.in_ok-place-in_default.place c.in_ok-chunk.chunk.size _ before.0 nd r.size_is c.in_ok-place-in_default.ensures.value passed, passed);
   faults = omega (arith, c.in_ok-place-in_default.ensures.never_falls, c.in_ok-chunk.ensures.never_falls, c.loop-chunk.invariant.faults);
 }
+
+pub returns-in_err-chunk-clause-takes : goal.returns-in_err-chunk-clause-takes
+returns-in_err-chunk-clause-takes g c = λ bytes chunk f at. c.in_err-chunk.ensures.takes bytes (c.loop-chunk.invariant.told bytes chunk f at).1
+
+pub returns-in-Samples-clause-takes : goal.returns-in-Samples-clause-takes
+returns-in-Samples-clause-takes g c = λ bytes chunk f at. c.in_ok-chunk.ensures.takes bytes (c.loop-chunk.invariant.told bytes chunk f at).1
+
+pub returns-in_err-place-in_default-clause-takes : goal.returns-in_err-place-in_default-clause-takes
+returns-in_err-place-in_default-clause-takes g c = λ bytes chunk f at.
+    let before = c.loop-chunk.invariant.told bytes chunk f at in
+    let r = c.in_ok-chunk.ensures.told bytes before.1 in
+    c.in_err-place-in_default.ensures.takes bytes r.at

@@ -38,3 +38,15 @@ returns-in_err-found-clause-exact g c = λ bytes e nf.
     let p = err_from_is_err_and c.from_residual-in_err-found.result c.from_residual-in_err-found.ensures.1 in
     let r = c.in_ok-read_riff.ensures.told bytes e in
     read_exactly bytes c.args.limit None _ (rw (p.1, p.2) (c.in_err-found.ensures.told bytes (open_first bytes r.0) r.1)) nf
+
+pub returns-in_err-samples-clause-takes : goal.returns-in_err-samples-clause-takes
+returns-in_err-samples-clause-takes g c = λ bytes e.
+    let r = c.in_ok-read_riff.ensures.told bytes e in
+    let f = c.in_ok-found.ensures.told bytes (open_first bytes r.0) r.1 in
+    c.in_err-samples.ensures.takes bytes f.chunk f.formatted f.at
+
+pub returns-clause-takes : goal.returns-clause-takes
+returns-clause-takes g c = λ bytes e.
+    let r = c.in_ok-read_riff.ensures.told bytes e in
+    let f = c.in_ok-found.ensures.told bytes (open_first bytes r.0) r.1 in
+    c.in_ok-samples.ensures.takes bytes f.chunk f.formatted f.at
