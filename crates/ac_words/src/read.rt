@@ -1,9 +1,9 @@
-ghost use Rattle.std.specs.Prelude.{◌≡◌, ◌≢◌, ◌<◌, [], ◌∷◌, ◌++◌, length, map, string_bytes, not, MatchOption, IfOk, Err, ℕ};
+ghost use Rattle.std.specs.Prelude.{◌≡◌, ◌≢◌, ◌<◌, [], ◌∷◌, ◌++◌, length, map, string_bytes, not, MatchOption, IfOk, IsOk, Err, ℕ};
 ghost use Rattle.std.specs.Str.Parse.{starts_with_minus};
 ghost use Rattle.ac_words.specs.Grammar.{is_name as is_name_text, are_names as are_name_texts, last_words, EncodePairs, Means, InGrammar};
 ghost use Rattle.ac_words.specs.Asked.{texts_of, meaning_of, GivesCommand, GivesNames};
 ghost use Rattle.ac_words.specs.declared.meaning.Options.{Options};
-ghost use Rattle.ac_words.specs.declared.fault.WordsFault.TheVariants.{Usage};
+ghost use Rattle.ac_words.specs.declared.fault.WordsFault.TheVariants.{Usage, NoMemory};
 
 use crate::fault::WordsFault;
 use crate::meaning::{Command, Couple, Names, Options};
@@ -130,10 +130,14 @@ fn asked_by<'a>(words: &'a [String]) -> Option<Asked<'a>>
 ///
 /// # Errors
 ///
-/// `Usage` where the words are not in the grammar; `NoMemory` for want of memory.
+/// `Usage` exactly where the words are not in the grammar. They are read without memory, so that `NoMemory`
+/// never comes.
 pub fn names<'a>(alloc: Global, words: &'a [String]) -> Result<Names<'a>, WordsFault>
     ensures ok { IfOk result (λ n. GivesNames (map string_bytes words.entry.now) (texts_of n)) }
     ensures usage { result ≡ Err Usage → ¬ InGrammar (map string_bytes words.entry.now) }
+    ensures outside { ¬ InGrammar (map string_bytes words.entry.now) → result ≡ Err Usage }
+    ensures inside { InGrammar (map string_bytes words.entry.now) → IsOk result }
+    ensures memory { result ≢ Err NoMemory }
 {
     let _ = alloc;
     match asked_by(words) {
@@ -146,10 +150,14 @@ pub fn names<'a>(alloc: Global, words: &'a [String]) -> Result<Names<'a>, WordsF
 ///
 /// # Errors
 ///
-/// `Usage` where the words are not in the grammar; `NoMemory` for want of memory.
+/// `Usage` exactly where the words are not in the grammar. They are read without memory, so that `NoMemory`
+/// never comes.
 pub fn command(alloc: Global, words: &[String]) -> Result<Command, WordsFault>
     ensures ok { IfOk result (GivesCommand (map string_bytes words.now)) }
     ensures usage { result ≡ Err Usage → ¬ InGrammar (map string_bytes words.now) }
+    ensures outside { ¬ InGrammar (map string_bytes words.now) → result ≡ Err Usage }
+    ensures inside { InGrammar (map string_bytes words.now) → IsOk result }
+    ensures memory { result ≢ Err NoMemory }
 {
     let _ = alloc;
     match asked_by(words) {
