@@ -4,6 +4,8 @@
 //! and the bytes taken as lists, where an object tells them.
 #![tactic(auto)]
 
+#[cfg(test)]
+mod again;
 mod mem_sink;
 mod mem_source;
 mod memory;

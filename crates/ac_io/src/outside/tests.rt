@@ -1,3 +1,4 @@
+use crate::again::made;
 use crate::{Failed, MemSource, StdSource, fill};
 use std::io::Read;
 use std::test::Fail;
@@ -17,7 +18,9 @@ fn fill_joins_the_pieces_of_its_source(rt: HostRuntime) {
 
 #[test]
 fn fill_fails_where_a_read_fails(rt: HostRuntime) -> Result<(), Fail> {
-    let mut source = MemSource::new([1, 2, 3].to_vec(rt.alloc())?, [1].to_vec(rt.alloc())?);
+    let mut source = made(&rt, || {
+        Ok(MemSource::new([1, 2, 3].to_vec(rt.alloc())?, [1].to_vec(rt.alloc())?))
+    })?;
     let mut into = [0; 4];
     assert_eq!(rt; fill(&mut source, &mut into), Err(Failed));
     assert_eq!(rt; fill(&mut source, &mut into), Ok(0));

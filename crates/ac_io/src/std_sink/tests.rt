@@ -1,10 +1,13 @@
+use crate::again::made;
 use crate::{Failed, Sink, StdSink};
 use std::test::Fail;
 
 #[test]
 fn a_writer_of_std_is_a_sink(rt: HostRuntime) -> Result<(), Fail> {
-    let mut held = [7].to_vec(rt.alloc())?;
+    // Room for all, since a writer of std that finds no memory fails as any other.
+    let mut held = made(&rt, || Vec::with_capacity(rt.alloc(), 3))?;
     let mut sink = StdSink::new(&mut held);
+    assert_eq!(rt; sink.write(&[7]), Ok(()));
     assert_eq!(rt; sink.write(&[1, 2]), Ok(()));
     assert_eq!(rt; sink.write(&[]), Ok(()));
     assert_eq!(rt; held.as_slice(), [7, 1, 2].as_slice());

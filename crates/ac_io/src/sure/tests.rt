@@ -1,9 +1,10 @@
+use crate::again::made;
 use crate::{NullSink, Sink, Source, SureSource};
 use std::test::Fail;
 
 #[test]
 fn a_sure_source_gives_all_its_bytes(rt: HostRuntime) -> Result<(), Fail> {
-    let mut source = SureSource::new([1, 2, 3].to_vec(rt.alloc())?);
+    let mut source = SureSource::new(made(&rt, || [1, 2, 3].to_vec(rt.alloc()))?);
     let mut into = [0; 2];
     assert_eq!(rt; source.read(&mut into), Ok(2));
     assert_eq!(rt; into, [1, 2]);
