@@ -3,7 +3,7 @@ ghost use Rattle.ac_bits.specs.Bits.{bits, bits_of, Appends};
 
 use std::marker::Model;
 
-/// The bits of one frame, at most 30,720 of them: the 3,840 bytes of the largest frame.
+/// The bits of one frame, at most 30,720 of them: the 3,840 bytes of the largest frame (A/52 Table 5.18).
 ///
 /// Contracts see it as the list of the bits that were put.
 #[derive(Drop)]

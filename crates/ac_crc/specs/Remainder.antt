@@ -1,4 +1,5 @@
--- The remainder of a list of bits by the generator of A/52 7.10.1, by sums of shifted copies.
+-- The remainder of a list of bits by the generator of A/52 7.10.1. The standard gives a shift register; that
+-- the remainder is told by sums of shifted copies is this project's own form.
 use Rattle.std.specs.Prelude.{◌≡◌, ℕ, ◌<◌, ◌^◌, Bool, true, false, List, [], ◌∷◌, ◌++◌, length, replicate}
 use Rattle.std.proofs.Math.Bool.{xor}
 use Rattle.ac_bits.specs.Bits.{bits}
@@ -9,10 +10,11 @@ add [] ys = ys
 add (x ∷ xs) [] = x ∷ xs
 add (x ∷ xs) (y ∷ ys) = xor x y ∷ add xs ys
 
+-- n zeros
 abbrev pub zeros : ℕ → List Bool
 zeros n = replicate n false
 
--- x^16 + x^15 + x^2 + 1
+-- x^16 + x^15 + x^2 + 1 (A/52 7.10.1), by its coefficients from x^16 down
 abbrev pub generator : List Bool
 generator = true ∷ true ∷ false ∷ false ∷ false ∷ false ∷ false ∷ false ∷ false ∷ false ∷ false ∷ false ∷ false ∷ false ∷ true ∷ false ∷ true ∷ []
 

@@ -1,4 +1,4 @@
--- Sources and sinks in memory. Their calls are numbered from 0, and fail by their numbers.
+-- Sources and sinks in memory, this project's own. Their calls are numbered from 0, and fail by their numbers.
 use Rattle.std.specs.Prelude.{◌≡◌, ℕ, ◌+◌, ◌<◌, ◌≤◌, Bool, ◌==◌, List, ◌++◌, length, drop}
 use Rattle.std.specs.List.{list_any}
 use Rattle.ac_io.specs.Outside.{next}
@@ -16,6 +16,7 @@ pub record Incoming : Type 0 where
   pub failing : List ℕ
   pub faults : ℕ
 
+-- all bytes to come, and no call so far
 abbrev pub new_incoming : List ℕ → List ℕ → Incoming
 new_incoming bytes failing = record { rest = bytes; call = 0; failing = failing; faults = 0 }
 
@@ -39,6 +40,7 @@ pub record Outgoing : Type 0 where
   pub faults : ℕ
   pub starved : ℕ
 
+-- these bytes taken, and no call so far
 abbrev pub new_outgoing : List ℕ → ℕ → List ℕ → Outgoing
 new_outgoing bytes room failing =
     record { held = bytes; room = room; call = 0; failing = failing; faults = 0; starved = 0 }

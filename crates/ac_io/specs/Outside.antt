@@ -1,5 +1,5 @@
 -- What an object of the outside tells: a source the bytes to come, a sink the bytes taken, and both how
--- many of their calls failed.
+-- many of their calls failed. The standard knows no files, so all of it is this project's own.
 use Rattle.std.specs.Prelude.{◌≡◌, ℕ, ◌+◌, ◌-◌, ◌<◌, ◌≤◌, ◌^◌, min, List, [], ◌++◌, length, take, drop, Option, Some, None}
 
 -- one more, but a count of 64 bits stands still at its end

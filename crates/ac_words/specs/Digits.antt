@@ -1,7 +1,7 @@
--- What the text of a number may not begin with.
+-- What the text of a number may not begin with: this project's own, as all of the words.
 use Rattle.std.specs.Prelude.{ℕ, Bool, ◌==◌, ◌&&◌, not, false, List, [], ◌∷◌}
 
--- no plus stands first, and no zero before another byte
+-- some byte stands there, no plus (43) stands first, and no zero (48) before another byte
 abbrev pub is_bare_number : List ℕ → Bool
 is_bare_number [] = false
 is_bare_number (b ∷ []) = not (b == 43)

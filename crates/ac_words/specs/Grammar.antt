@@ -1,5 +1,6 @@
 -- The words of a command line, as a relation between the words and what they mean:
 -- the command, then pairs of an option and its value, then the names of the input, the output and the report.
+-- All of it is this project's own but the rates, which are those of A/52 Table 5.18.
 use Rattle.std.specs.Fmt.{decimal}
 use Rattle.std.specs.List.{list_all, list_any}
 use Rattle.std.specs.Prelude.{◌≡◌, ℕ, Bool, not, true, nat_lt, ◌||◌, ◌&&◌, List, [], ◌∷◌, ◌++◌, length, Option, None, find, option_map, MatchOption, IsTrue, codes}
@@ -9,6 +10,7 @@ use Rattle.ac_base.specs.Rates.{is_rate}
 use Rattle.ac_words.specs.declared.meaning.Couple.TheVariants.{Auto}
 use Rattle.ac_words.specs.declared.meaning.Options.{Options}
 
+-- the bytes of a word
 abbrev pub Text : Type 0
 Text = List ℕ
 
@@ -42,14 +44,16 @@ all_known known = list_all (λ p. list_any (λ name. bytes_eq p.0 name) known)
 
 -- ---- the options of encode
 
+-- `--rate` alone so far
 abbrev pub encode_known : List Text
 encode_known = codes "rate" ∷ []
 
--- the text is a rate in decimal digits, without a sign or a leading zero; a rate is required
+-- the text is a rate of A/52 Table 5.18 in decimal digits, without a sign or a leading zero; a rate is required
 abbrev pub RateOf : Option Text → ℕ → Type 0
 RateOf value rate = MatchOption value ⊥ (λ text. (text ≡ decimal rate) × IsTrue (is_rate rate))
 
--- what the values say; an option that no words give yet has its default
+-- what the values say; an option that no words give yet has its default: 20,000 nodes, the bandwidth of the
+-- rate, coupling by the rate
 pub record Says (rate : Option Text) (o : Options) : Type 0 where
   pub rate_is : RateOf rate o.rate
   pub nodes_is : o.nodes ≡ 20000
@@ -70,14 +74,17 @@ pub record EncodePairs (ws : List Text) (o : Options) : Type 0 where
 abbrev pub is_name : Text → Bool
 is_name word = bytes_eq word (codes "-") || (nat_lt 0 (length word) && not (starts_with_minus word))
 
+-- the names of the input, the output and the report
 pub record LastWords : Type 0 where
   pub from : Text
   pub to : Text
   pub report : Text
 
+-- as they stand in the line
 abbrev pub last_words : LastWords → List Text
 last_words n = n.from ∷ n.to ∷ n.report ∷ []
 
+-- each of them is a name
 abbrev pub are_names : LastWords → Bool
 are_names n = list_all is_name (last_words n)
 
@@ -87,11 +94,13 @@ are_names n = list_all is_name (last_words n)
 pub data Meaning : Type 0 where
   encode : Options → LastWords → Meaning
 
+-- `encode`, then its pairs, then three names
 abbrev pub Means : List Text → Meaning → Type 0
 Means ws (encode o n) =
     (middle : List Text) × (ws ≡ codes "encode" ∷ (middle ++ last_words n))
     × EncodePairs middle o × (are_names n ≡ true)
 
+-- the words mean something
 abbrev pub InGrammar : List Text → Type 0
 InGrammar ws = (m : Meaning) × Means ws m
 

@@ -1,7 +1,7 @@
 //! The command line: its words read into a command with its options, and three names.
 //!
 //! The grammar is a relation between the words and what they mean. `names` and `command` answer `Usage`
-//! exactly where the words have no meaning.
+//! exactly where the words have no meaning, and take no memory.
 #![tactic(auto)]
 
 mod fault;
