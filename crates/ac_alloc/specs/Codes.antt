@@ -2,36 +2,37 @@
 use Rattle.std.specs.Prelude.{ℕ, ◌+◌, ◌*◌, ◌≤◌, ℤ, pos, negsuc, List, [], ◌∷◌, slice_index, slice_index_or}
 use Rattle.ac_alloc.specs.declared.params.Params.{Params}
 
--- each within the width of its field
+-- each within the width of its field (A/52 5.4.1.3, 5.4.3.31 to 5.4.3.46)
 abbrev pub IsParams : Params → Type 0
 IsParams p =
     (p.fscod ≤ 2) × (p.sdcycod ≤ 3) × (p.fdcycod ≤ 3) × (p.sgaincod ≤ 3) × (p.dbpbcod ≤ 3) × (p.floorcod ≤ 7) × (p.fgaincod ≤ 7) × (p.cplfleak ≤ 7) × (p.cplsleak ≤ 7)
 
--- those of the encoder
+-- those of the encoder: this project's profile
 abbrev pub encoder_params : ℕ → Params
 encoder_params fscod =
     record { fscod = fscod; sdcycod = 2; fdcycod = 1; sgaincod = 1; dbpbcod = 3; floorcod = 7; fgaincod = 4; cplfleak = 0; cplsleak = 0 }
 
--- by sdcycod (Table 7.6)
+-- by sdcycod (A/52 Table 7.6)
 abbrev pub slow_decays : List ℕ
 slow_decays = 0x0f ∷ 0x11 ∷ 0x13 ∷ 0x15 ∷ []
 
--- by fdcycod (Table 7.7)
+-- by fdcycod (A/52 Table 7.7)
 abbrev pub fast_decays : List ℕ
 fast_decays = 0x3f ∷ 0x53 ∷ 0x67 ∷ 0x7b ∷ []
 
--- by sgaincod (Table 7.8)
+-- by sgaincod (A/52 Table 7.8)
 abbrev pub slow_gains : List ℕ
 slow_gains = 0x540 ∷ 0x4d8 ∷ 0x478 ∷ 0x410 ∷ []
 
--- by dbpbcod (Table 7.9)
+-- by dbpbcod (A/52 Table 7.9)
 abbrev pub knees : List ℕ
 knees = 0 ∷ 0x700 ∷ 0x900 ∷ 0xb00 ∷ []
 
--- by floorcod (Table 7.10)
+-- by floorcod (A/52 Table 7.10)
 abbrev pub floors : List ℤ
 floors = pos 0x2f0 ∷ pos 0x2b0 ∷ pos 0x270 ∷ pos 0x230 ∷ pos 0x1f0 ∷ pos 0x170 ∷ pos 0x0f0 ∷ negsuc 2047 ∷ []
 
+-- ---- of given parameters (A/52 7.2.2.1)
 abbrev pub slow_decay : Params → ℕ
 slow_decay p = slice_index slow_decays p.sdcycod
 
@@ -41,7 +42,7 @@ fast_decay p = slice_index fast_decays p.fdcycod
 abbrev pub slow_gain : Params → ℕ
 slow_gain p = slice_index slow_gains p.sgaincod
 
--- (Table 7.11)
+-- by fgaincod (A/52 Table 7.11)
 abbrev pub fast_gain : Params → ℕ
 fast_gain p = 128 * (p.fgaincod + 1)
 
@@ -51,7 +52,7 @@ knee p = slice_index knees p.dbpbcod
 abbrev pub floor_of : Params → ℤ
 floor_of p = slice_index_or floors p.floorcod (pos 0)
 
--- the fast and the slow leak of the coupling channel before its first band (cplfleak, cplsleak)
+-- the fast and the slow leak of the coupling channel before its first band (A/52 5.4.3.45, 5.4.3.46, 7.2.2.1)
 abbrev pub fast_start : Params → ℕ
 fast_start p = 256 * p.cplfleak + 768
 

@@ -1,5 +1,6 @@
 -- The excitation of bands: low-frequency compensation, the leaks and where they begin (A/52 7.2.2.4).
--- P is the power spectral density by band.
+-- P is the power spectral density by band. The standard runs through the bands with one compensation and two leaks that change from band to
+-- band; here each is said of a band by itself.
 use Rattle.std.specs.Prelude.{◌≡◌, ℕ, zero, suc, ◌+◌, ◌*◌, ◌-◌, ◌≤◌, min, ℤ, pos, ◌-ℤ◌, Bool, true, false, if◌then◌else◌, ◌==◌, nat_lt, nat_le}
 use Rattle.std.specs.Int.{int_max}
 use Rattle.ac_base.specs.declared.spans.Lead.{Lead}
@@ -7,12 +8,12 @@ use Rattle.ac_base.specs.declared.spans.Lead.TheVariants as lead
 use Rattle.ac_alloc.specs.declared.params.Params.{Params}
 use Rattle.ac_alloc.specs.Codes.{fast_gain, slow_gain, fast_decay, slow_decay, fast_start, slow_start}
 
--- ---- low-frequency compensation: a before a band, whose density is b0 and whose next band's is b1
+-- ---- low-frequency compensation (A/52 7.2.2.4): a before a band, whose density is b0 and whose next band's is b1
 unfoldable pub lowcomp : ℕ → ℕ → ℕ → ℕ → ℕ
 lowcomp a b0 b1 band =
     if nat_lt band 20 then (if b0 + 256 == b1 then (if nat_lt band 7 then 384 else 320) else (if nat_lt b1 b0 then a - 64 else a)) else a - 128
 
--- the left fold of lowcomp from 0 over the first n bands
+-- the left fold of lowcomp from 0 over the first n bands (A/52 7.2.2.4)
 abbrev pub lowcomp_to : (ℕ → ℕ) → ℕ → ℕ
 lowcomp_to P zero = 0
 lowcomp_to P (suc n) = lowcomp (lowcomp_to P n) (P n) (P (n + 1)) n
@@ -21,7 +22,7 @@ lowcomp_to P (suc n) = lowcomp (lowcomp_to P n) (P n) (P (n + 1)) n
 abbrev pub low : Bool → (ℕ → ℕ) → ℕ → ℕ
 low lfe P b = lowcomp_to P (if lfe then min (b + 1) 6 else b + 1)
 
--- ---- where the leaks begin
+-- ---- where the leaks begin (A/52 7.2.2.4)
 -- one past the first of the n bands from b on that is at most the next band, and 7 where there is none
 abbrev pub first_rise : (ℕ → ℕ) → ℕ → ℕ → ℕ
 first_rise P b zero = 7
@@ -31,7 +32,7 @@ first_rise P b (suc n) = if nat_le (P b) (P (b + 1)) then b + 1 else first_rise 
 abbrev pub begin : Bool → (ℕ → ℕ) → ℕ
 begin lfe P = first_rise P 2 (if lfe then 4 else 5)
 
--- ---- leaks
+-- ---- leaks (A/52 7.2.2.4), as maxima over the bands that feed them
 -- the greatest of f a, f (a + 1) and so on to f (a + n)
 abbrev pub greatest : (ℕ → ℤ) → ℕ → ℕ → ℤ
 greatest f a zero = f a
@@ -45,7 +46,7 @@ leak P gain decay a b = greatest (λ j. pos (P j) -ℤ pos gain -ℤ pos (decay 
 abbrev pub leak_from : ℤ → (ℕ → ℕ) → ℕ → ℕ → ℕ → ℕ → ℤ
 leak_from start P gain decay f b = int_max (start -ℤ pos (decay * (b - f + 1))) (leak P gain decay f b)
 
--- ---- excitation
+-- ---- excitation (A/52 7.2.2.4)
 -- of a band that both leaks reach; the compensation counts up to band 21
 abbrev pub joined : ℤ → ℤ → ℕ → ℕ → ℤ
 joined fast slow low b = if nat_le b 21 then int_max (fast -ℤ pos low) slow else int_max fast slow
@@ -67,7 +68,7 @@ excite_by lead.Coupled p f P b = excite p false P b
 excite_by lead.Coupling p f P b = excite_coupling p f P b
 excite_by lead.Low p f P b = excite p true P b
 
--- the bands that a coded channel can have, up to but not to
+-- the bands that a coded channel can have, up to but not to: those of its bins (A/52 7.1.3) in A/52 Table 7.13
 abbrev pub AreBands : Lead → ℕ → ℕ → Type 0
 AreBands lead.Free from to = (from ≡ 0) × (31 ≤ to) × (to ≤ 50)
 AreBands lead.Coupled from to = (from ≡ 0) × (31 ≤ to) × (to ≤ 50)

@@ -9,24 +9,24 @@ use Rattle.ac_alloc.specs.Codes.{knee}
 use Rattle.ac_alloc.specs.Integration.{bndpsd}
 use Rattle.ac_alloc.specs.Excitation.{excite_by}
 
--- the first and the last band of a span
+-- the first and the last band of a span (A/52 Table 7.13)
 abbrev pub first_band : Span → ℕ
 first_band s = slice_index masktab_list s.start
 
 abbrev pub last_band : Span → ℕ
 last_band s = slice_index masktab_list (s.end - 1)
 
--- of one band: where its density is below the knee the excitation grows; the mask is at least the hearing threshold
+-- of one band (A/52 7.2.2.5): where its density is below the knee the excitation grows; the mask is at least the hearing threshold
 abbrev pub masked : ℤ → ℕ → ℕ → ℕ → ℤ
 masked excite knee bndpsd threshold =
     int_max (if nat_lt bndpsd knee then excite +ℤ pos ((knee - bndpsd) / 4) else excite) (pos threshold)
 
--- the mask of band b
+-- the mask of band b (A/52 7.2.2.2 to 7.2.2.5)
 abbrev pub mask : Params → Span → List ℕ → ℕ → ℤ
 mask p s exps b =
     masked (excite_by s.lead p (first_band s) (bndpsd s.start s.end exps) b) (knee p) (bndpsd s.start s.end exps b) (slice_index (hth_list p.fscod) b)
 
--- how great masks and floors are
+-- how great masks and floors are: bounds that follow, which the standard doesn't state
 abbrev pub IsLevel : ℤ → Type 0
 IsLevel m = (pos 0 ≤ℤ m) × (unsigned_abs m ≤ 5120)
 

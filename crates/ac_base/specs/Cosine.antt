@@ -1,4 +1,5 @@
--- The cosines of all phases, of scale 2 ^ 30, period 2048, from the quarter table.
+-- The cosines of all phases, of scale 2 ^ 30, period 2048, from the quarter table. The standard's are real numbers (A/52 7.9.4.1,
+-- 8.2.3.2); these are this project's profile, the real cosine's symmetries kept.
 use Rattle.std.specs.Prelude.{◌≡◌, ℕ, ◌-◌, ◌%◌, ◌≤◌, min, nat_lt, nat_le, if◌then◌else◌, ℤ, pos, neg_ℤ, List, slice_index_or}
 use Rattle.ac_base.specs.Quarter.{cosine_of}
 
@@ -6,6 +7,7 @@ use Rattle.ac_base.specs.Quarter.{cosine_of}
 unfoldable pub quarter_of : ℕ → ℕ
 quarter_of j = if nat_lt j 512 then cosine_of j else 0
 
+-- a list is the quarter table
 abbrev pub IsQuarter : List ℤ → Type 0
 IsQuarter table = (j : ℕ) → j ≤ 512 → slice_index_or table j (pos 0) ≡ pos (quarter_of j)
 

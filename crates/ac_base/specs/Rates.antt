@@ -2,7 +2,7 @@
 use Rattle.std.specs.Prelude.{◌≡◌, ◌≤◌, ◌==◌, ℕ, Bool, IsTrue, List, [], ◌∷◌, slice_index}
 use Rattle.std.specs.List.{list_any}
 
--- in kbit/s, by frmsizecod / 2
+-- in kbit/s, by frmsizecod / 2 (A/52 Table 5.18)
 abbrev pub rates : List ℕ
 rates = 32 ∷ 40 ∷ 48 ∷ 56 ∷ 64 ∷ 80 ∷ 96 ∷ 112 ∷ 128 ∷ 160 ∷ 192 ∷ 224 ∷ 256 ∷ 320 ∷ 384 ∷ 448 ∷ 512 ∷ 576 ∷ 640 ∷ []
 
@@ -13,7 +13,7 @@ is_rate rate = list_any (λ r. r == rate) rates
 abbrev pub IsRate : ℕ → Type 0
 IsRate rate = IsTrue (is_rate rate)
 
--- the code of a rate
+-- the code of a rate, which is frmsizecod / 2 (A/52 5.4.1.4)
 pub record HasCode (rate code : ℕ) : Type 0 where
   pub small : code ≤ 18
   pub entry : slice_index rates code ≡ rate

@@ -1,5 +1,6 @@
 -- The side bits of a frame: the widths of its rows other than exponents, chbwcod, gainrng, skip bytes and mantissas (A/52 5.3).
--- Each list has one width for a row of the syntax, in its order; a row that isn't there has the width 0.
+-- Each list has one width for a row of the syntax, in its order; a row that isn't there has the width 0. Which optional rows are there is
+-- this project's profile: block 0 sends all, a later block keeps all but the exponents, and all channels are coupled or none.
 use Rattle.std.specs.Prelude.{ℕ, ◌+◌, ◌-◌, ◌*◌, Bool, ◌&&◌, is_some, if◌then◌else◌, Option, List, [], ◌∷◌, sum}
 use Rattle.ac_base.specs.Shape.{full_of, count_of, is_stereo, has_center, has_surround, subbands, rematrix_bands}
 
@@ -108,17 +109,17 @@ tail_rows =
     16 ∷  -- crc2
     []
 
--- the side bits up to the end of block 1
+-- the side bits up to the end of block 1: a part of this project's own, since blocks 0 and 1 end in the words of crc1 (A/52 7.10.1)
 unfoldable pub side_front : ℕ → Bool → Option (ℕ × ℕ) → ℕ
 side_front acmod lfe couple =
     sum (head_rows acmod) + sum (first_block_rows acmod lfe couple) + sum (later_block_rows acmod lfe couple)
 
--- the side bits of the frame
+-- the side bits of the frame (A/52 5.3)
 unfoldable pub side_total : ℕ → Bool → Option (ℕ × ℕ) → ℕ
 side_total acmod lfe couple =
     sum (head_rows acmod) + sum (first_block_rows acmod lfe couple) + 5 * sum (later_block_rows acmod lfe couple) + sum tail_rows
 
--- the same in closed form; k, s and l are 1 where there is a coupling, where there are two channels, and where there is LFE
+-- the sums of the rows in closed form, this project's own; k, s and l are 1 where there is a coupling, where there are two channels, and where there is LFE
 abbrev pub head_formula : ℕ → ℕ
 head_formula acmod = 65 + 2 * count_of (has_center acmod) + 2 * count_of (has_surround acmod) + 2 * count_of (is_stereo acmod)
 

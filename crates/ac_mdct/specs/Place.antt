@@ -1,4 +1,4 @@
--- The places that a folded sum keeps.
+-- The places that a folded sum keeps: this project's own way to the sums of A/52 7.9.4.1 and 8.2.3.2.
 use Rattle.std.specs.Prelude.{ℕ, ◌+◌, ◌-◌, List, ℤ, pos, neg_ℤ, ◌*ℤ◌, slice_index_or, nat_lt, if◌then◌else◌}
 use Rattle.ac_base.specs.Sigma.{sigma}
 use Rattle.ac_base.specs.Cosine.{cosine_at}

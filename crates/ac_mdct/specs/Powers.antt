@@ -1,4 +1,4 @@
--- Odd phases as powers of five.
+-- Odd phases as powers of five: this project's own order of the sums of A/52 7.9.4.1 and 8.2.3.2.
 use Rattle.std.specs.Prelude.{◌≡◌, ℕ, ◌+◌, ◌^◌, ◌<◌, List, ℤ, pos, neg_ℤ, nat_lt, if◌then◌else◌, slice_index, slice_index_or}
 use Rattle.ac_base.specs.Cosine.{cosine_at}
 use Rattle.ac_mdct.specs.declared.powers.TheConstants.{LOG, FORWARD, INVERSE}
