@@ -1,5 +1,5 @@
--- The frame of a mono sound: offset 0, exponents D45 in block 0 and reuse after it.
--- The sound of a frame is the 256 places before it, and its own 1,536.
+-- The frame of a mono sound (A/52 5.3): offset 0, exponents D45 in block 0 and reuse after it, which is this project's choice.
+-- The sound of a frame is the 256 places before it, and its own 1,536 (A/52 8.2.3).
 use Rattle.std.specs.Prelude.{◌≡◌, ℕ, zero, suc, nat_eq, if◌then◌else◌, ◌+◌, ◌-◌, ◌*◌, ◌<◌, min, None, List, [], ◌++◌, slice_index, slice_index_or, ℤ, pos}
 use Rattle.ac_base.specs.Rates.{HasCode}
 use Rattle.ac_base.specs.Shape.{full_span}
@@ -21,15 +21,15 @@ coefficient_at x b k = coefficient (forward_sum (λ n. rounded (x (256 * b + n))
 abbrev pub IsRawRow : (ℕ → ℤ) → ℕ → List ℕ → Type 0
 IsRawRow x b row = (k : ℕ) → k < 256 → slice_index row k ≡ raw_of (coefficient_at x b k)
 
--- the raw exponents of the six blocks
+-- the raw exponents of the six blocks (A/52 8.2.7)
 abbrev pub AreRaw : (ℕ → ℤ) → List (List ℕ) → Type 0
 AreRaw x raw = (b : ℕ) → b < 6 → IsRawRow x b (slice_index_or raw b [])
 
--- the bandwidth code chbwcod at a bit rate in kbit/s
+-- the bandwidth code chbwcod (A/52 5.4.3.24) at a bit rate in kbit/s: this project's choice
 abbrev pub bandwidth : ℕ → ℕ
 bandwidth rate = min (rate - 20) 60
 
--- the bins of the channel
+-- the bins of the channel (A/52 7.1.3)
 abbrev pub mono_span : ℕ → Span
 mono_span rate = full_span (bandwidth rate) None
 
@@ -45,12 +45,12 @@ pub record IsSpelled (rate : ℕ) (x : ℕ → ℤ) (spelled : Spelling) : Type 
 abbrev pub size_code : ℕ → ℕ → ℕ → ℕ → ℕ
 size_code rate fscod i code = if nat_eq (frame_words_of rate fscod i) (table_words rate fscod) then 2 * code else 2 * code + 1
 
--- the words of the first n frames
+-- the words of the first n frames; that sizes alternate so at 44.1 kHz is this project's own
 unfoldable pub words_so_far : ℕ → ℕ → ℕ → ℕ
 words_so_far rate fscod zero = 0
 words_so_far rate fscod (suc n) = words_so_far rate fscod n + frame_words_of rate fscod n
 
--- these bytes are frame i of a stream: that of the sound x, at a bit rate and a sampling code
+-- these bytes are frame i of a stream (A/52 5.3): that of the sound x, at a bit rate and a sampling code
 pub record IsFrame (rate fscod i : ℕ) (x : ℕ → ℤ) (frame : List ℕ) : Type 0 where
   pub code : ℕ
   pub has_code : HasCode rate code
@@ -58,6 +58,6 @@ pub record IsFrame (rate fscod i : ℕ) (x : ℕ → ℤ) (frame : List ℕ) : T
   pub is_spelled : IsSpelled rate x spelled
   pub plain : IsPlain fscod (size_code rate fscod i code) (frame_words_of rate fscod i) (bandwidth rate) spelled.first spelled.groups frame
 
--- the places of a frame, behind the last 256 of the frame before
+-- the places of a frame, behind the last 256 of the frame before (A/52 8.2.3)
 abbrev pub joined : List ℤ → List ℤ → ℕ → ℤ
 joined last pcm p = slice_index_or (last ++ pcm) p (pos 0)

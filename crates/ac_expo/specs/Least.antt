@@ -1,6 +1,7 @@
--- Least numbers.
+-- Least numbers: arithmetic for the choice of exponents, which is this project's own.
 use Rattle.std.specs.Prelude.{ℕ, zero, suc, ◌+◌, ◌-◌, ◌*◌, min}
 
+-- how far two steps stand apart
 abbrev pub distance : ℕ → ℕ → ℕ
 distance g h = (g - h) + (h - g)
 

@@ -1,4 +1,5 @@
--- The exponents of steps by a list of sums: the sum of step g is its exponent and 2 g.
+-- The exponents of steps by a list of sums: the sum of step g is its exponent and 2 g. Both words serve the reader's
+-- refusals, which are this project's own.
 use Rattle.std.specs.Prelude.{ℕ, ◌+◌, ◌*◌, ◌<◌, ◌≤◌, ◌⊎◌, List, slice_index}
 
 -- a step up to the last one with a bin has an exponent outside 0 to 24

@@ -1,4 +1,5 @@
--- Where the bits go that the fields of a frame leave over, over plain numbers.
+-- Where the bits go that the fields of a frame leave over, over plain numbers. Skip fields are those of A/52 5.4.3.58 to
+-- 5.4.3.60, aux bits those of 5.4.4.1, the first CRC part that of 7.10.1; the rule that shares the bits out is this project's own.
 use Rattle.std.specs.Prelude.{ℕ, zero, suc, ◌+◌, ◌-◌, ◌*◌, ◌/◌, min, Option, Some, None}
 
 -- the bits of the first CRC part: the first 5/8 of the frame's words (A/52 7.10.1)
@@ -6,7 +7,7 @@ abbrev pub front_room : ℕ → ℕ
 front_room words = 16 * (words / 2 + words / 8)
 
 -- what aux bits may take of the rest of the frame: not the mantissas of block 5, and not the
--- 18 bits of auxdatae, crcrsv and crc2
+-- 18 bits of auxdatae, crcrsv and crc2 (A/52 5.4.4.3, 5.4.5)
 abbrev pub aux_room : ℕ → ℕ → ℕ
 aux_room words last = 16 * words - front_room words - last - 18
 
@@ -18,7 +19,7 @@ left_over words total = 16 * words - total
 abbrev pub to_skip : ℕ → ℕ → ℕ → ℕ
 to_skip words total last = left_over words total - aux_room words last
 
--- the least skipl for which the skip field has n bits or more: 9 for skipl, 8 for each byte
+-- the least skipl for which the skip field has n bits or more: 9 for skipl, 8 for each byte (A/52 5.4.3.59, 5.4.3.60)
 abbrev pub least_skipl : ℕ → ℕ
 least_skipl n = (n - 9 + 7) / 8
 
@@ -40,6 +41,6 @@ skip_bits (Some skipl) = 9 + 8 * skipl
 unfoldable pub skipped : ℕ → ℕ
 skipped x = skip_bits (skip x 1) + skip_bits (skip x 2) + skip_bits (skip x 3) + skip_bits (skip x 4) + skip_bits (skip x 5)
 
--- the rest of what is left is aux bits
+-- the rest of what is left is aux bits (A/52 5.4.4.1)
 abbrev pub aux_bits : ℕ → ℕ → ℕ → ℕ
 aux_bits words total last = left_over words total - skipped (to_skip words total last)

@@ -1,4 +1,5 @@
--- The plain frame: mono, SNR offset 0, exponents D45 in block 0 and reuse after it, no mantissas.
+-- The plain frame (A/52 5.3): mono, SNR offset 0, exponents D45 in block 0 and reuse after it, no mantissas. The values that
+-- stand in its rows are this project's choice.
 use Rattle.std.specs.Prelude.{◌≡◌, ◌≢◌, ◌⊎◌, ℕ, ◌+◌, ◌*◌, ◌/◌, ◌^◌, ◌<◌, ◌≤◌, slice_index, Bool, List, [], ◌∷◌, ◌++◌, length, take, drop, Option, Some, None}
 use Rattle.ac_bits.specs.Bits.{bits_of}
 use Rattle.ac_crc.specs.Remainder.{IsRemainder}
@@ -39,7 +40,7 @@ strategy_rows bw first =
     ∷ row first 4  -- exps: that of bin 0
     ∷ []
 
--- block 0 behind the groups of exponents
+-- block 0 behind the groups of exponents (A/52 5.3.3 and 5.4.3.28 to 5.4.3.58)
 unfoldable pub allocation_rows : List Row
 allocation_rows =
     row 0 2  -- gainrng
@@ -57,10 +58,11 @@ allocation_rows =
     ∷ row 0 1  -- skiple
     ∷ []
 
+-- block 0 (A/52 5.3.3)
 abbrev pub first_block_rows : ℕ → ℕ → List ℕ → List Row
 first_block_rows bw first groups = strategy_rows bw first ++ (group_rows groups ++ allocation_rows)
 
--- a later block up to deltbaie: all is as in the block before
+-- a later block up to deltbaie: all is as in the block before (A/52 5.3.3 and 5.4.3)
 unfoldable pub reuse_rows : List Row
 reuse_rows =
     row 0 1  -- blksw
@@ -73,15 +75,16 @@ reuse_rows =
     ∷ row 0 1  -- deltbaie
     ∷ []
 
--- skiple, and where it is 1 skipl and so many bytes of 0
+-- skiple, and where it is 1 skipl and so many bytes of 0 (A/52 5.4.3.58 to 5.4.3.60)
 unfoldable pub skip_rows : Option ℕ → List Row
 skip_rows None = row 0 1 ∷ []
 skip_rows (Some skipl) = row 1 1 ∷ row skipl 9 ∷ row 0 (8 * skipl) ∷ []
 
+-- a later block (A/52 5.3.3)
 abbrev pub later_block_rows : Option ℕ → List Row
 later_block_rows skipl = reuse_rows ++ skip_rows skipl
 
--- blocks 1 to 5, whose skip fields take x bits
+-- blocks 1 to 5, whose skip fields take x bits (A/52 5.3.3)
 unfoldable pub later_rows : ℕ → List Row
 later_rows x =
     later_block_rows (skip x 1)
@@ -107,11 +110,11 @@ abbrev pub d45_groups : ℕ → ℕ
 d45_groups end = (end + 8) / 12
 
 -- the bits of all fields without padding: head, block 0, its exponents with chbwcod and
--- gainrng, five later blocks, and auxdatae, crcrsv and crc2
+-- gainrng, five later blocks, and auxdatae, crcrsv and crc2 (the widths of A/52 5.3)
 abbrev pub total_bits : ℕ → ℕ
 total_bits groups = 65 + 35 + (12 + 7 * groups) + 5 * 10 + 18
 
--- all rows between crc1 and crc2
+-- all rows between crc1 and crc2 (A/52 5.3)
 unfoldable pub body_rows : ℕ → ℕ → ℕ → ℕ → ℕ → List ℕ → ℕ → List Row
 body_rows fscod frmsizecod words bw first groups crcrsv =
     let total = total_bits (length groups) in
@@ -120,7 +123,7 @@ body_rows fscod frmsizecod words bw first groups crcrsv =
     ++ (later_rows (to_skip words total 0)
     ++ tail_rows (aux_bits words total 0) crcrsv))
 
--- all rows
+-- all rows: syncword and crc1 (A/52 5.3.1, 5.4.1.1, 5.4.1.2), those between, and crc2 (5.3.5, 5.4.5.2)
 unfoldable pub plain_rows : ℕ → ℕ → ℕ → ℕ → ℕ → List ℕ → ℕ → ℕ → ℕ → List Row
 plain_rows fscod frmsizecod words bw first groups crc1 crcrsv crc2 =
     row 0x0B77 16  -- syncword
@@ -132,11 +135,11 @@ plain_rows fscod frmsizecod words bw first groups crc1 crcrsv crc2 =
 abbrev pub front_part : ℕ → List Bool → List Bool
 front_part words frame = drop 16 (take (front_room words) frame)
 
--- the bits that crc2 makes whole: the frame without the syncword
+-- the bits that crc2 makes whole: the frame without the syncword (A/52 7.10.1)
 abbrev pub all_part : List Bool → List Bool
 all_part frame = drop 16 frame
 
--- a size that a frame may have, and no more groups than the widest channel has
+-- a size that a frame may have (A/52 Table 5.18), and no more groups than the widest channel has (7.1.3)
 pub record IsSized (words : ℕ) (groups : List ℕ) : Type 0 where
   pub least : 64 ≤ words
   pub most : words ≤ 1920
@@ -146,7 +149,7 @@ pub record IsSized (words : ℕ) (groups : List ℕ) : Type 0 where
 abbrev pub AreBytes : List ℕ → Type 0
 AreBytes frame = (k : ℕ) → k < length frame → slice_index frame k < 2 ^ 8
 
--- These bytes are the plain frame. crcrsv is 0, or 1 where crc2 would else be the syncword.
+-- These bytes are the plain frame (A/52 5.3, 7.10.1). crcrsv is 0, or 1 where crc2 would else be the syncword (5.4.5.1).
 pub record IsPlain (fscod frmsizecod words bw first : ℕ) (groups frame : List ℕ) : Type 0 where
   pub crc1 : ℕ
   pub crcrsv : ℕ

@@ -1,12 +1,13 @@
--- A frame as a list of rows: each is a field, as its number and its width in bits.
+-- A frame as a list of rows (A/52 5.3): each is a field, as its number and its width in bits.
 use Rattle.std.specs.Prelude.{ℕ, ◌+◌, ◌^◌, ◌<◌, ◌≤◌, Bool, List, [], ◌∷◌, ◌++◌}
 use Rattle.ac_bits.specs.Bits.{bits}
 use Rattle.ac_frame.specs.declared.rows.Row.{Row}
 
+-- a field with this number and width
 abbrev pub row : ℕ → ℕ → Row
 row value width = record { value = value; width = width }
 
--- the bits of the rows, one row after the other
+-- the bits of the rows, one row after the other, each most significant bit first (A/52 5.3)
 unfoldable pub spell : List Row → List Bool
 spell [] = []
 spell (r ∷ rows) = bits r.value r.width ++ spell rows

@@ -1,4 +1,4 @@
--- What a reader of samples keeps, and where it stands.
+-- What a reader of samples keeps, and where it stands. All of it is this project's own.
 use Rattle.std.specs.Prelude.{◌≡◌, ℕ, ◌+◌, ◌*◌, Bool, false, Option, None}
 use Rattle.ac_wav.specs.declared.body.WavBody.{WavBody}
 use Rattle.ac_wav.specs.declared.fault.WavFault.{WavFault}

@@ -1,4 +1,4 @@
--- A WAV as a whole list of bytes: the 12-byte head, chunks that are passed over, the `fmt ` chunk, chunks that are
+-- RIFF WAVE as a whole list of bytes: the 12-byte head, chunks that are passed over, the `fmt ` chunk, chunks that are
 -- passed over, the `data` chunk, and a rest that isn't looked at. Places count from 0 at the first byte.
 use Rattle.std.specs.Prelude.{◌≡◌, ◌≢◌, ℕ, ◌+◌, ◌%◌, ◌-◌, ◌≤◌, ◌==◌, List, ◌++◌, length, take, drop, codes, All, Option, Some, None, if◌then◌else◌}
 use Rattle.std.specs.List.{concat}
@@ -7,7 +7,7 @@ use Rattle.ac_wav.specs.declared.head.WavHead.{WavHead}
 use Rattle.ac_wav.specs.Layout.{has_lfe, acmod_of, order_of, channel_count}
 use Rattle.ac_wav.specs.Format.{number_at, format_of, fault_of, layout_of, fscod_of}
 
--- ---- chunks
+-- ---- chunks (RIFF: a name of four bytes, a size in four, so many bytes, and a pad byte after an odd size)
 
 -- the name of the chunk that the bytes begin with
 abbrev pub name_of : List ℕ → List ℕ
@@ -44,9 +44,10 @@ pub record IsPassedBehind (chunk : List ℕ) : Type 0 where
   pub whole : IsChunk chunk
   pub no_data : name_of chunk ≢ codes "data"
 
--- ---- the list
+-- ---- the list (RIFF WAVE: `RIFF`, a size, `WAVE`, then chunks, the `fmt ` chunk before the `data` chunk).
+-- Which chunks are passed over is this project's profile.
 
--- the list begins with the 12-byte head. The RIFF size isn't looked at
+-- the list begins with the 12-byte head of RIFF WAVE. That the RIFF size isn't looked at is this project's profile
 pub record IsRiff (bytes : List ℕ) : Type 0 where
   pub long : 12 ≤ length bytes
   pub riff : take 4 bytes ≡ codes "RIFF"
@@ -77,11 +78,13 @@ pub record IsDataAt (bytes : List ℕ) (place : ℕ) : Type 0 where
   pub long : place + 8 ≤ length bytes
   pub named : name_of (drop place bytes) ≡ codes "data"
 
--- the size of the data; none where they run to the end of the input
+-- ---- what a head says, in this project's own form
+
+-- the size of the data; none where they run to the end of the input, as 0xFFFFFFFF says in this project's profile
 abbrev pub data_size : ℕ → Option ℕ
 data_size size = if size == 0xFFFFFFFF then None else Some size
 
--- what a head says: its format, the size of its data, and the number of bytes before the data
+-- what a head says: its format (`fmt ` chunk; A/52 5.4.1.3, 5.4.2.3), the size of its data, and the number of bytes before the data
 abbrev pub head_of : Format → ℕ → ℕ → WavHead
 head_of f size taken = record {
   fscod = fscod_of f.rate;
@@ -94,7 +97,7 @@ head_of f size taken = record {
   taken = taken;
 }
 
--- the fields of a head are those of a WAV of the profile
+-- the fields of a head are those of a WAV of this project's profile
 pub record IsOfProfile (head : WavHead) : Type 0 where
   pub fscod_most : head.fscod ≤ 2
   pub acmod_least : 1 ≤ head.acmod
@@ -112,6 +115,8 @@ pub record IsHead (bytes : List ℕ) (head : WavHead) : Type 0 where
   pub formatted : IsFormatted bytes chunk place
   pub at : IsDataAt bytes place
   pub says : head ≡ head_of (format_of (body_of chunk)) (size_of (drop place bytes)) (place + 8)
+
+-- ---- the data (RIFF WAVE, `data` chunk)
 
 -- the number of bytes of the data: as stated, or all that is there
 abbrev pub stated : Option ℕ → ℕ → ℕ

@@ -1,4 +1,5 @@
--- The fields of a `fmt ` chunk, the tests in their order, and what the head says. Numbers are little endian.
+-- The fields of a `fmt ` chunk (RIFF WAVE, and its extensible form for tag 0xFFFE), the tests in their order, and what
+-- the head says. Numbers are little endian.
 use Rattle.std.specs.Prelude.{◌≡◌, ◌≤◌, ◌⊎◌, ℕ, ◌*◌, ◌/◌, ◌%◌, ◌^◌, Bool, not, ◌==◌, ◌||◌, ◌&&◌, leb, if◌then◌else◌, List, [], ◌∷◌, length, drop, Option, Some, None}
 use Rattle.byteorder.specs.Endian.{little_number}
 use Rattle.ac_wav.specs.declared.fault.WavKind.{WavKind}
@@ -8,7 +9,9 @@ use Rattle.ac_wav.specs.declared.format.Format.{Format}
 use Rattle.ac_wav.specs.declared.format.Fault.{Fault}
 use Rattle.ac_wav.specs.Layout.{has_lfe, acmod_of, channel_count, default_mask}
 
--- the number in the n bytes from this place on
+-- ---- the fields (RIFF WAVE, `fmt ` chunk)
+
+-- the number in the n bytes from this place on, the least byte first
 abbrev pub number_at : ℕ → ℕ → List ℕ → ℕ
 number_at place n bytes = little_number n (drop place bytes)
 
@@ -30,13 +33,15 @@ fields_of size body = record {
 abbrev pub format_of : List ℕ → Format
 format_of body = fields_of (length body) body
 
--- the subformat of PCM: 01 00 00 00 00 00 10 00 80 00 00 AA 00 38 9B 71
+-- the subformat of PCM in the extensible form: 01 00 00 00 00 00 10 00 80 00 00 AA 00 38 9B 71
 abbrev pub pcm_subformat : ℕ
 pcm_subformat = 0x719B3800AA0000800010000000000001
 
--- the extensible form
+-- the extensible form, by its tag
 abbrev pub is_extensible : Format → Bool
 is_extensible f = f.tag == 0xFFFE
+
+-- ---- the tests: their order, their places and the values that they accept are this project's profile
 
 -- a test of a field: where it fails the chunk is refused so, at this place behind the chunk's first byte
 pub record Test : Type 0 where
@@ -89,15 +94,17 @@ IsOfField (BadFmt field) = Unit {0}
 IsOfField (Unsupported field value) = Unit {0}
 IsOfField NotYet = ⊥
 
--- the mask that the channels have
+-- ---- what an accepted format says
+
+-- the mask that the channels have; what a missing mask means is this project's profile
 abbrev pub layout_of : Format → ℕ
 layout_of f = if is_extensible f && not (f.mask == 0) then f.mask else default_mask f.channels
 
--- fscod of a rate (A/52 table 5.6)
+-- fscod of a rate (A/52 5.4.1.3, Table 5.6)
 abbrev pub fscod_of : ℕ → ℕ
 fscod_of rate = if rate == 48000 then 0 else (if rate == 44100 then 1 else 2)
 
--- what an accepted format has
+-- what an accepted format has, in this project's profile
 pub record IsFine (f : Format) : Type 0 where
   pub least : 1 ≤ f.channels
   pub most : f.channels ≤ 6

@@ -1,4 +1,4 @@
--- What the pieces that are read tell of the whole list.
+-- What the pieces that are read tell of the whole list. The reader, its limit and its refusals are this project's own.
 use Rattle.std.specs.Prelude.{◌≡◌, ◌≢◌, ℕ, ◌+◌, ◌≤◌, ◌<◌, List, length, take, drop, codes, Option, Some, None}
 use Rattle.ac_wav.specs.declared.fault.WavKind.TheVariants.{Short, NotRiff, NoFmt, NoData, BadFmt, Unsupported, NotYet}
 use Rattle.ac_wav.specs.declared.fault.WavFault.{WavFault}
@@ -58,6 +58,8 @@ IsUntaken bytes taken n limit (Bad (Unsupported field value) place) = ⊥
 IsUntaken bytes taken n limit (Bad NotYet place) = ⊥
 IsUntaken bytes taken n limit ReadFault = Unit {0}
 IsUntaken bytes taken n limit TooLong = (limit < length bytes) × (limit < taken + n)
+
+-- ---- chunks (RIFF: a name of four bytes, a size in four, so many bytes, and a pad byte after an odd size)
 
 -- what a name is
 abbrev pub NameIs : Name → List ℕ → Type 0

@@ -1,4 +1,5 @@
--- Why a list of bytes is refused, and at which place: the first rule that fails, chunk by chunk.
+-- Why a list of bytes is refused, and at which place: the first rule that fails, chunk by chunk. The rules are those of
+-- RIFF WAVE and its `fmt ` chunk; the kinds, the places, their order and the limit are this project's own.
 use Rattle.std.specs.Prelude.{◌≡◌, ◌≢◌, ℕ, ◌+◌, ◌≤◌, ◌<◌, ◌⊎◌, List, length, take, drop, codes, Option, Some, Result, Ok, Err}
 use Rattle.ac_wav.specs.declared.fault.WavKind.{WavKind}
 use Rattle.ac_wav.specs.declared.fault.WavKind.TheVariants.{Short, NotRiff, NoFmt, NoData, BadFmt, Unsupported, NotYet}

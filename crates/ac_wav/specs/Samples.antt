@@ -1,4 +1,5 @@
--- The samples of a WAV: 24 bits, by coded channels, LFE last. Those of 16 bits are multiplied by 256.
+-- The samples of a WAV (RIFF WAVE, `data` chunk: those of all channels side by side, little endian, in two's complement):
+-- 24 bits, by coded channels, LFE last. Those of 16 bits are multiplied by 256, which is this project's own.
 use Rattle.std.specs.Prelude.{◌≡◌, ℕ, ◌+◌, ◌-◌, ◌*◌, ◌/◌, ◌^◌, ◌<◌, ◌≤◌, min, ◌==◌, ◌&&◌, nat_lt, if◌then◌else◌, List, [], length, drop, take, slice_index, slice_index_or, Option, Some, None, Result, Err, ℤ, pos, ◌*ℤ◌, unsigned_abs}
 use Rattle.byteorder.specs.Endian.{little_number, twos_complement}
 use Rattle.ac_wav.specs.declared.fault.WavKind.TheVariants.{Short, NotRiff, NoFmt, NoData, BadFmt, Unsupported, NotYet}
@@ -40,6 +41,8 @@ sample_count head bytes = data_length head bytes / align_of head
 abbrev pub sample_at : WavHead → List ℕ → ℕ → ℕ → ℤ
 sample_at head bytes c j = sample_in head (sample_count head bytes) (drop head.taken bytes) c j
 
+-- ---- reading them, 1,536 of each channel at a time, as a frame has (A/52 5.3). The reader is this project's own
+
 -- the 1,536 entries of a row are f 0, f 1 ..
 abbrev pub RowIs : (ℕ → ℤ) → List ℤ → Type 0
 RowIs f row = (t : ℕ) → t < 1536 → slice_index_or row t (pos 0) ≡ f t
@@ -52,6 +55,7 @@ RowWithin row = (t : ℕ) → t < 1536 → unsigned_abs (slice_index_or row t (p
 abbrev pub RowsAre : (ℕ → ℕ → ℤ) → List (List ℤ) → Type 0
 RowsAre f rows = (c : ℕ) → c < 6 → RowIs (f c) (slice_index_or rows c [])
 
+-- all six rows have 24 bits
 abbrev pub RowsWithin : List (List ℤ) → Type 0
 RowsWithin rows = (c : ℕ) → c < 6 → RowWithin (slice_index_or rows c [])
 
@@ -60,6 +64,7 @@ abbrev pub part_of : Option ℕ → ℕ → ℕ → ℕ
 part_of None full done = full
 part_of (Some size) full done = min full (size - done)
 
+-- and where so many bytes are taken
 abbrev pub frame_bytes : WavHead → ℕ → ℕ
 frame_bytes head taken = part_of head.size (1536 * align_of head) (taken - head.taken)
 

@@ -1,4 +1,5 @@
--- The WAV as a whole: its head and all its data, or why it is refused, and what is known of it from the bytes up to a limit.
+-- The WAV as a whole (RIFF WAVE): its head and all its data, or why it is refused, and what is known of it from the bytes up
+-- to a limit. The refusals and the limit are this project's own.
 use Rattle.std.specs.Prelude.{◌≡◌, ℕ, ◌+◌, ◌≤◌, ◌<◌, ◌⊎◌, List, length, take, drop, None}
 use Rattle.ac_wav.specs.declared.fault.WavKind.{WavKind}
 use Rattle.ac_wav.specs.declared.fault.WavKind.TheVariants.{Short, NoData}

@@ -1,4 +1,5 @@
--- The bytes of decoded sound: one head of 68 bytes in the extensible form, and samples of 24 bits.
+-- The bytes of decoded sound: one head of 68 bytes (RIFF WAVE, extensible form), and samples of 24 bits. That this form is
+-- written, with sizes that aren't known, is this project's own.
 use Rattle.std.specs.Prelude.{ℕ, zero, suc, ◌+◌, ◌*◌, Bool, if◌then◌else◌, List, [], ◌∷◌, ◌++◌, codes, slice_index, slice_index_or, ℤ, pos}
 use Rattle.std.specs.Int.{w64}
 use Rattle.byteorder.specs.Endian.{little_bytes, low_bytes}
@@ -7,15 +8,15 @@ use Rattle.ac_wav.specs.Format.{pcm_subformat}
 
 -- ---- the head
 
--- samples a second by fscod (A/52 table 5.6)
+-- samples a second by fscod (A/52 5.4.1.3, Table 5.6)
 abbrev pub rate_of : ℕ → ℕ
 rate_of fscod = slice_index (48000 ∷ 44100 ∷ 32000 ∷ []) fscod
 
--- the first mask of a layout
+-- the first mask of a layout (RIFF WAVE, extensible form)
 abbrev pub written_mask : ℕ → Bool → ℕ
 written_mask acmod lfe = first_mask acmod + (if lfe then 8 else 0)
 
--- sizes that aren't known, a `fmt ` chunk of 40 bytes, the extensible form
+-- `RIFF` and `WAVE` with a size that isn't known, a `fmt ` chunk of 40 bytes, the extensible form
 abbrev pub head_front : List ℕ
 head_front = codes "RIFF" ++ little_bytes 4 0xFFFFFFFF ++ codes "WAVE" ++ codes "fmt " ++ little_bytes 4 40 ++ little_bytes 2 0xFFFE
 
@@ -23,7 +24,7 @@ head_front = codes "RIFF" ++ little_bytes 4 0xFFFFFFFF ++ codes "WAVE" ++ codes 
 abbrev pub head_depth : List ℕ
 head_depth = little_bytes 2 24 ++ little_bytes 2 22 ++ little_bytes 2 24
 
--- the subformat, and data to the end
+-- the subformat of PCM, and a `data` chunk that runs to the end
 abbrev pub head_end : List ℕ
 head_end = little_bytes 16 pcm_subformat ++ codes "data" ++ little_bytes 4 0xFFFFFFFF
 
@@ -39,12 +40,13 @@ head_of_layout channels rate mask =
     ++ little_bytes 4 mask
     ++ head_end
 
+-- the head of a WAV of a layout and a sampling code
 abbrev pub head_bytes : ℕ → Bool → ℕ → List ℕ
 head_bytes acmod lfe fscod = head_of_layout (channel_count acmod lfe) (rate_of fscod) (written_mask acmod lfe)
 
--- ---- the samples
+-- ---- the samples (RIFF WAVE, `data` chunk)
 
--- a sample of 24 bits
+-- a sample of 24 bits, the least byte first
 abbrev pub sample_bytes : ℤ → List ℕ
 sample_bytes z = little_bytes 3 (low_bytes w64 3 z)
 

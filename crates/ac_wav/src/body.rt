@@ -1,5 +1,5 @@
 //! The samples of a WAV, read piece by piece.
-ghost use Rattle.std.specs.Prelude.{◌≡◌, ℕ, ◌+◌, ◌*◌, ◌≤◌, List, IfOk, MatchResult, IsErrOf};
+ghost use Rattle.std.specs.Prelude.{◌≡◌, ℕ, ◌+◌, ◌*◌, ◌≤◌, List, IfOk, IfErr, MatchResult, IsErrOf};
 ghost use Rattle.ac_io.specs.Outside.{Rose};
 ghost use Rattle.ac_wav.specs.Form.{IsOfProfile};
 ghost use Rattle.ac_wav.specs.Pieces.{IsAt, TakesAtMost};
@@ -85,6 +85,7 @@ fn read_samples<S: Source>(
     ensures within { IfOk result (λ piece. taken + piece.bytes ≤ limit) }
     ensures stands { IfOk result (λ piece. IsStanding head.now (taken + piece.bytes)) }
     ensures bound { IfOk result (λ _. RowsWithin out.new) }
+    ensures unwritten { IfErr result (λ _. out.new ≡ out.old) }
     ensures told { (bytes : List ℕ) («from» : ℕ) → IsAt bytes taken (S.left input.old) → taken ≡ head.now.taken + «from» * align_of head.now → MatchResult result
         (λ piece. SamplesRead bytes head.now taken «from» (taken + piece.bytes) piece.samples out.new (S.left input.new)) (IsUnsampled bytes head.now taken limit) }
     ensures takes { (bytes : List ℕ) → IsAt bytes taken (S.left input.old) → TakesAtMost bytes (limit + 1) (S.left input.new) }

@@ -44,7 +44,8 @@ impl WavBody {
     /// # Errors
     ///
     /// `Bad(Short, ..)` where the input ends inside data of a stated size, `TooLong` where a byte past the limit is
-    /// needed and there, `ReadFault` where a read failed. From then on it is the same refusal, without a read.
+    /// needed and there, `ReadFault` where a read failed. From then on it is the same refusal, without a read. `out` stays as
+    /// it was wherever it refuses.
     pub fn samples<S: Source>(
         &mut self,
         input: &mut S,
@@ -56,6 +57,7 @@ impl WavBody {
         ensures least { (head_in self.new).taken ≤ taken_by self.new }
         ensures most { IfOk result (λ n. n ≤ 1536) }
         ensures bound { IfOk result (λ _. RowsWithin out.new) }
+        ensures unwritten { IfErr result (λ _. out.new ≡ out.old) }
         ensures told { (bytes : List ℕ) («from» : ℕ) → IsAt bytes (taken_by self.old) (S.left input.old) → IsBehind self.old «from» → MatchResult result
             (λ n. SamplesRead bytes (head_in self.old) (taken_by self.old) «from» (taken_by self.new) n out.new (S.left input.new))
             (IsUnsampled bytes (head_in self.old) (taken_by self.old) (limit_of self.old)) }
