@@ -1,7 +1,8 @@
--- The program's exit codes.
-use Rattle.std.specs.Prelude.{◌≡◌, ◌⊎◌, ℕ}
-use Rattle.ac_app.specs.Lines.{code_of}
+-- The program's exit codes, and the lines that it prints itself.
+use Rattle.std.specs.Prelude.{◌≡◌, ◌⊎◌, ℕ, List, codes}
+use Rattle.ac_app.specs.Lines.{code_of, status_line}
 use Rattle.ac_app.specs.declared.status.Status.{Status}
+use Rattle.ac_app.specs.declared.status.Status.TheVariants as statuses
 use Rattle.ac_words.specs.declared.fault.WordsFault.{WordsFault}
 use Rattle.ac_words.specs.declared.fault.WordsFault.TheVariants.{Usage, NoMemory}
 
@@ -9,11 +10,14 @@ use Rattle.ac_words.specs.declared.fault.WordsFault.TheVariants.{Usage, NoMemory
 abbrev pub open_fault : ℕ
 open_fault = 8
 
--- what a run answered, or that a name couldn't be opened or created
-abbrev pub IsCode : ℕ → Type 0
-IsCode code = (code ≡ open_fault) ⊎ ((status : Status) × (code ≡ code_of status))
+abbrev pub open_fault_line : List ℕ
+open_fault_line = codes "status 8 open fault\n"
 
 -- why there are no words to follow
 abbrev pub code_of_words : WordsFault → ℕ
 code_of_words Usage = 1
 code_of_words NoMemory = 9
+
+abbrev pub words_line : WordsFault → List ℕ
+words_line Usage = codes "status 1 usage\n"
+words_line NoMemory = codes "status 9 no memory\n"
