@@ -1,5 +1,5 @@
 -- Deeds behind deeds.
-use Rattle.std.proofs.Common.{◌≡◌, List, [], ◌++◌, Option, Some, None, append_assoc, append-nil, subst, sym, ap, ◌∙◌}
+use Rattle.std.proofs.Common.{List, [], ◌++◌, Option, Some, None, append_assoc, append-nil, subst, sym, ap, ◌∙◌}
 use Rattle.ac3.specs.Deeds.{Deed, Did}
 
 pub did_nothing : (a : Option (List Deed)) → Did a a []

@@ -1,6 +1,5 @@
--- The program's exit codes, and the lines that it prints itself.
-use Rattle.std.specs.Prelude.{◌≡◌, ◌⊎◌, ℕ, List, codes}
-use Rattle.ac_app.specs.Lines.{code_of, status_line}
+-- The program's own exit codes, and the lines that it prints itself; the status lines and codes of runs are ac_app's.
+use Rattle.std.specs.Prelude.{ℕ, List, codes}
 use Rattle.ac_app.specs.declared.status.Status.{Status}
 use Rattle.ac_app.specs.declared.status.Status.TheVariants as statuses
 use Rattle.ac_words.specs.declared.fault.WordsFault.{WordsFault}
@@ -14,10 +13,6 @@ abbrev pub open_fault_line : List ℕ
 open_fault_line = codes "status 8 open fault\n"
 
 -- why there are no words to follow
-abbrev pub code_of_words : WordsFault → ℕ
-code_of_words Usage = 1
-code_of_words NoMemory = 9
-
-abbrev pub words_line : WordsFault → List ℕ
-words_line Usage = codes "status 1 usage\n"
-words_line NoMemory = codes "status 9 no memory\n"
+abbrev pub status_of_words : WordsFault → Status
+status_of_words Usage = statuses.Usage
+status_of_words NoMemory = statuses.NoMemory

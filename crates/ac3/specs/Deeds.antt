@@ -1,5 +1,5 @@
 -- What the program asks for and says, in order.
-use Rattle.std.specs.Prelude.{◌≡◌, ◌⊎◌, ℕ, Bool, true, false, List, [], ◌∷◌, ◌++◌, Option, Some, None, Result, Ok, Err, codes, if◌then◌else◌}
+use Rattle.std.specs.Prelude.{◌≡◌, ℕ, Bool, false, List, [], ◌∷◌, ◌++◌, Option, Some, None, Result, Ok, Err, codes, if◌then◌else◌}
 use Rattle.std.specs.Str.{bytes_eq}
 use Rattle.ac_words.specs.Grammar.{Text, LastWords}
 
@@ -73,4 +73,4 @@ pub data Stopped (n : LastWords) : List Deed → Type 0 where
   no_input : Stopped n (refused (input_of n.from) ∷ [])
   no_output : (i : Told) → Stopped n (given (input_of n.from) i ∷ refused (output_of n.to) ∷ [])
   no_report : (i o : Told) → is_dash n.report ≡ false
-    → Stopped n (given (input_of n.from) i ∷ given (output_of n.to) o ∷ refused (report_file n.report) ∷ [])
+      → Stopped n (given (input_of n.from) i ∷ given (output_of n.to) o ∷ refused (report_file n.report) ∷ [])

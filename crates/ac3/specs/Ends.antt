@@ -5,12 +5,12 @@ use Rattle.ac_words.specs.Grammar.{Text, LastWords, InGrammar}
 use Rattle.ac_words.specs.Asked.{GivesNames}
 use Rattle.ac_words.specs.declared.fault.WordsFault.{WordsFault}
 use Rattle.ac_words.specs.declared.fault.WordsFault.TheVariants as faults
-use Rattle.ac_app.specs.Lines.{code_of}
-use Rattle.ac_app.specs.Run.{counts, JobTakes, RunGives, IsDone}
-use Rattle.ac_app.specs.World.{Held, Holds}
+use Rattle.ac_app.specs.Lines.{code_of, status_line}
+use Rattle.ac_app.specs.Run.{Counts, counts, JobTakes, RunGives, IsDone}
+use Rattle.ac_app.specs.World.{Held, held}
 use Rattle.ac_app.specs.declared.status.Status.{Status}
 use Rattle.ac_app.specs.declared.status.Status.TheVariants.{Ok, ReadFault, WriteFault}
-use Rattle.ac3.specs.Codes.{open_fault, open_fault_line, code_of_words, words_line}
+use Rattle.ac3.specs.Codes.{open_fault, open_fault_line, status_of_words}
 use Rattle.ac3.specs.Deeds.{Deed, said, Did, Tellings, all_given, Stopped}
 use Rattle.ac3.specs.declared.perform.Things.{Things}
 use Rattle.ac3.specs.declared.perform.Ended.{Ended}
@@ -20,7 +20,7 @@ use Rattle.ac3.specs.declared.perform.Ended.TheVariants.{Ran, OpenFault, NoWords
 abbrev pub code_of_end : {S O N : Type 0} → Ended S O N → ℕ
 code_of_end (Ran status _) = code_of status
 code_of_end OpenFault = open_fault
-code_of_end (NoWords fault) = code_of_words fault
+code_of_end (NoWords fault) = code_of (status_of_words fault)
 
 -- P where a run ended with this status and left these things
 abbrev pub IfRan : {S O N : Type 0} → Ended S O N → (Status → Things S O N → Type 0) → Type 0
@@ -38,12 +38,18 @@ IfNoWords (Ran _ _) P = Unit {0}
 IfNoWords OpenFault P = Unit {0}
 IfNoWords (NoWords fault) P = P fault
 
--- the words were run on things that told the first tellings and tell the second now
+-- what the output and the report have taken
+abbrev pub written : Tellings → Held
+written t = held t.output.bytes t.report.bytes
+
+-- how many of their calls failed
+abbrev pub failures : Tellings → Counts
+failures t = counts t.output.faults t.report.faults
+
+-- the words were run, with this answer, on things that told the first tellings before and tell the second now
 pub record Leaves (ws : List Text) (status : Status) (old new : Tellings) : Type 0 where
-  pub ok : (bytes : List ℕ) (h : Held) → old.input.bytes ≡ Some bytes → Holds h old.output.bytes old.report.bytes → status ≡ Ok
-    → IsDone ws bytes h new.input.bytes new.output.bytes new.report.bytes
-  pub gives : (bytes : List ℕ) (h : Held) → old.input.bytes ≡ Some bytes → Holds h old.output.bytes old.report.bytes
-    → RunGives ws status bytes (counts old.output.faults old.report.faults) (counts new.output.faults new.report.faults) h new.output.bytes new.report.bytes
+  pub ok : (bytes : List ℕ) → old.input.bytes ≡ Some bytes → status ≡ Ok → IsDone ws bytes new.input.bytes (written old) (written new)
+  pub gives : (bytes : List ℕ) → old.input.bytes ≡ Some bytes → RunGives ws status bytes (failures old) (failures new) (written old) (written new)
   pub takes : (bytes : List ℕ) → old.input.bytes ≡ Some bytes → JobTakes ws status bytes new.input.bytes
   pub read : status ≡ ReadFault → Rose old.input.faults new.input.faults
   pub write : status ≡ WriteFault → Rose old.output.faults new.output.faults ⊎ Rose old.report.faults new.report.faults
@@ -60,4 +66,4 @@ StopsAt ws old new =
 
 -- nothing was asked for, and one line was said: usage, where the words are outside the grammar, or want of memory
 abbrev pub Refuses : List Text → WordsFault → Option (List Deed) → Option (List Deed) → Type 0
-Refuses ws fault old new = (fault ≡ faults.Usage → InGrammar ws → ⊥) × Did old new (said (words_line fault) ∷ [])
+Refuses ws fault old new = (fault ≡ faults.Usage → InGrammar ws → ⊥) × Did old new (said (status_line (status_of_words fault)) ∷ [])

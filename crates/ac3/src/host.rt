@@ -22,7 +22,9 @@ impl HostDesk<'_> {
 
 impl Desk for HostDesk<'_> {
     type Input = StdSource<Either<Stdin, File>>;
+
     type Output = StdSink<Either<Stdout, File>>;
+
     type Report = StdSink<File>;
 
     ghost done = { λ _. None };

@@ -1,7 +1,8 @@
 //! All that the program does, over any desk.
 ghost use Rattle.std.specs.Prelude.{◌≡◌, false, [], ◌∷◌, List, map, string_bytes, IfOk, OnErr};
 ghost use Rattle.ac_words.specs.Asked.{texts_of};
-ghost use Rattle.ac3.specs.Codes.{words_line};
+ghost use Rattle.ac_app.specs.Lines.{status_line};
+ghost use Rattle.ac3.specs.Codes.{status_of_words};
 ghost use Rattle.ac3.specs.Deeds.{Deed, Did, asked, said, refused, report_file, told, told_report, tellings, is_dash, input_of, output_of, report_given, all_given, Stopped};
 ghost use Rattle.ac3.specs.Ends.{code_of_end, IfRan, IfOpenFault, IfNoWords, Leaves, RunsOn, StopsAt, Refuses};
 
@@ -39,8 +40,8 @@ impl<S, O, N> Ended<S, O, N> {
         match self {
             Ended::Ran(status, _) => status.code(),
             Ended::OpenFault => 8,
-            Ended::NoWords(WordsFault::Usage) => 1,
-            Ended::NoWords(WordsFault::NoMemory) => 9,
+            Ended::NoWords(WordsFault::Usage) => Status::Usage.code(),
+            Ended::NoWords(WordsFault::NoMemory) => Status::NoMemory.code(),
         }
     }
 }
@@ -88,7 +89,7 @@ fn open_all<D: Desk>(
 ) -> Result<Things<D::Input, D::Output, D::Report>, Failed>
     ensures ok { IfOk result (λ t. Did (D.done desk.old) (D.done desk.new) (all_given (texts_of named.entry)
         (tellings (told (D.Input.left t.input) (D.Input.faults t.input)) (told (D.Output.held t.output) (D.Output.faults t.output))
-            (told_report D.Report.held D.Report.faults t.report)))) }
+        (told_report D.Report.held D.Report.faults t.report)))) }
     ensures failed { OnErr result ((deeds : List Deed) × Stopped (texts_of named.entry) deeds × Did (D.done desk.old) (D.done desk.new) deeds) }
 {
     let Ok(input) = open_input(desk, named.from) else {
@@ -115,11 +116,15 @@ fn work<S: Source, O: Sink, N: Sink>(
 ) -> Status
     ensures { Leaves (map string_bytes words.now) result
         (tellings (told (S.left things.old.input) (S.faults things.old.input)) (told (O.held things.old.output) (O.faults things.old.output))
-            (told_report N.held N.faults things.old.report))
+        (told_report N.held N.faults things.old.report))
         (tellings (told (S.left things.new.input) (S.faults things.new.input)) (told (O.held things.new.output) (O.faults things.new.output))
-            (told_report N.held N.faults things.new.report)) }
+        (told_report N.held N.faults things.new.report)) }
 {
-    let Things { input, output, report } = things;
+    let Things {
+        input,
+        output,
+        report,
+    } = things;
     match report {
         Some(report) => run(alloc, words, input, output, report),
         None => run(alloc, words, input, output, &mut NullSink),
@@ -129,7 +134,7 @@ fn work<S: Source, O: Sink, N: Sink>(
 /// Ends where there are no words to follow, and says why.
 pub fn refuse<D: Desk>(desk: &mut D, fault: WordsFault) -> Ended<D::Input, D::Output, D::Report>
     ensures end { result ≡ Ended.NoWords fault }
-    ensures line { Did (D.done desk.old) (D.done desk.new) (said (words_line fault) ∷ []) }
+    ensures line { Did (D.done desk.old) (D.done desk.new) (said (status_line (status_of_words fault)) ∷ []) }
 {
     let line = match fault {
         WordsFault::Usage => "status 1 usage\n",
@@ -147,7 +152,7 @@ pub fn perform<D: Desk>(
 ) -> Ended<D::Input, D::Output, D::Report>
     ensures ran { IfRan result (λ status t. RunsOn (map string_bytes words.now) status (D.done desk.old) (D.done desk.new)
         (tellings (told (D.Input.left t.input) (D.Input.faults t.input)) (told (D.Output.held t.output) (D.Output.faults t.output))
-            (told_report D.Report.held D.Report.faults t.report))) }
+        (told_report D.Report.held D.Report.faults t.report))) }
     ensures stopped { IfOpenFault result (StopsAt (map string_bytes words.now) (D.done desk.old) (D.done desk.new)) }
     ensures no_words { IfNoWords result (λ fault. Refuses (map string_bytes words.now) fault (D.done desk.old) (D.done desk.new)) }
 {

@@ -1,11 +1,11 @@
 //! The program over a desk in memory, which notes what it is asked for.
+ghost use Rattle.std.specs.Prelude.{None};
+
 use crate::desk::Desk;
 use crate::perform::{Ended, perform};
 use ac_app::{Failed, MemSink, MemSource, Status};
 use std::alloc::{AllocError, Global};
 use std::test::Fail;
-
-ghost use Rattle.std.specs.Prelude.{None};
 
 /// A mono WAV of 16 bits at 48 kHz without data.
 const EMPTY: [u8; 44] =
@@ -38,7 +38,9 @@ impl Notes {
 
 impl Desk for Notes {
     type Input = MemSource;
+
     type Output = MemSink;
+
     type Report = MemSink;
 
     ghost done = { λ _. None };
@@ -115,17 +117,47 @@ fn does(
 fn asked_in_order(rt: HostRuntime) -> Result<(), Fail> {
     let alloc = rt.alloc();
     assert!(rt; does(alloc, &["a", "b", "c"], "", 0, "open a;output b;report c;")?);
-    assert!(rt; does(rt.alloc(), &["-", "-", "-"], "", 0, "standard input;standard output;")?);
+    assert!(rt;
+        does(
+            rt.alloc(),
+            &["-", "-", "-"],
+            "",
+            0,
+            "standard input;standard output;"
+        )?
+    );
     Ok(())
 }
 
 #[test]
 fn the_first_that_is_refused_is_the_last(rt: HostRuntime) -> Result<(), Fail> {
     let names = ["a", "b", "c"];
-    assert!(rt; does(rt.alloc(), &names, "a", 8, "open a;say status 8 open fault\n;")?);
-    assert!(rt; does(rt.alloc(), &names, "b", 8, "open a;output b;say status 8 open fault\n;")?);
     assert!(rt;
-        does(rt.alloc(), &names, "c", 8, "open a;output b;report c;say status 8 open fault\n;")?
+        does(
+            rt.alloc(),
+            &names,
+            "a",
+            8,
+            "open a;say status 8 open fault\n;"
+        )?
+    );
+    assert!(rt;
+        does(
+            rt.alloc(),
+            &names,
+            "b",
+            8,
+            "open a;output b;say status 8 open fault\n;"
+        )?
+    );
+    assert!(rt;
+        does(
+            rt.alloc(),
+            &names,
+            "c",
+            8,
+            "open a;output b;report c;say status 8 open fault\n;"
+        )?
     );
     Ok(())
 }
@@ -148,7 +180,9 @@ fn the_report_has_the_status(rt: HostRuntime) -> Result<(), Fail> {
         Ended::Ran(status, things) => {
             assert_eq!(rt; status, Status::Ok);
             assert!(rt; things.output.bytes().is_empty());
-            assert!(rt; matches!(&things.report, Some(report) if report.bytes() == "status 0 ok\n".as_bytes()));
+            assert!(rt;
+                matches!(&things.report, Some(report) if report.bytes() == "status 0 ok\n".as_bytes())
+            );
         }
         _ => assert!(rt; false),
     }

@@ -11,9 +11,11 @@ pub returns-in_default-open_output-clause-failed : goal.returns-in_default-open_
 returns-in_default-open_output-clause-failed g c =
     let i = told (g.D.Input.Source.left c.in-Ok.input) (g.D.Input.Source.faults c.in-Ok.input) in
     let opened = given (input_of c.args.named.from.now) i ∷ [] in
-    let failed = refused (output_of c.args.named.to.now) ∷ [] in
-    (given (input_of c.args.named.from.now) i ∷ failed, no_output i,
-        did_then (g.D.Desk.done c.args.desk.now) (g.D.Desk.done c.open_input.new.desk) (g.D.Desk.done c.open_output.new.desk) opened failed c.in-Ok.ensures c.in_default-open_output.ensures)
+    let failed = refused (output_of c.args.named.to.now) ∷ [] in (
+      given (input_of c.args.named.from.now) i ∷ failed,
+      no_output i,
+      did_then (g.D.Desk.done c.args.desk.now) (g.D.Desk.done c.open_input.new.desk) (g.D.Desk.done c.open_output.new.desk) opened failed c.in-Ok.ensures c.in_default-open_output.ensures,
+    )
 
 pub returns-in_default-open_report-clause-failed : goal.returns-in_default-open_report-clause-failed
 returns-in_default-open_report-clause-failed g c =
@@ -25,8 +27,9 @@ returns-in_default-open_report-clause-failed g c =
     let start = g.D.Desk.done c.args.desk.now in
     let one = g.D.Desk.done c.open_input.new.desk in
     let two = g.D.Desk.done c.open_output.new.desk in
-    let last = g.D.Desk.done c.open_report.new.desk in
-    (given (input_of c.args.named.from.now) i ∷ given (output_of c.args.named.to.now) o ∷ failed,
-        no_report i o c.in_default-open_report.ensures.named,
-        did_then start one last first (given (output_of c.args.named.to.now) o ∷ failed) c.in-Ok.ensures
-            (did_then one two last second failed c.in-Ok-open_output.ensures c.in_default-open_report.ensures.failed))
+    let last = g.D.Desk.done c.open_report.new.desk in (
+      given (input_of c.args.named.from.now) i ∷ given (output_of c.args.named.to.now) o ∷ failed,
+      no_report i o c.in_default-open_report.ensures.named,
+      did_then start one last first (given (output_of c.args.named.to.now) o ∷ failed) c.in-Ok.ensures
+          (did_then one two last second failed c.in-Ok-open_output.ensures c.in_default-open_report.ensures.failed),
+    )
