@@ -11,7 +11,7 @@ use Rattle.ac_app.specs.World.{Held, held}
 use Rattle.ac_app.specs.declared.status.Status.{Status}
 use Rattle.ac_app.specs.declared.status.Status.TheVariants.{Ok, ReadFault, WriteFault}
 use Rattle.ac3.specs.Codes.{open_fault, open_fault_line, status_of_words}
-use Rattle.ac3.specs.Deeds.{Deed, said, Did, Tellings, all_given, Stopped}
+use Rattle.ac3.specs.Deeds.{Deed, said, Did, told, told_report, Tellings, tellings, all_given, Stopped}
 use Rattle.ac3.specs.declared.perform.Things.{Things}
 use Rattle.ac3.specs.declared.perform.Ended.{Ended}
 use Rattle.ac3.specs.declared.perform.Ended.TheVariants.{Ran, OpenFault, NoWords}
@@ -21,6 +21,12 @@ abbrev pub code_of_end : {S O N : Type 0} → Ended S O N → ℕ
 code_of_end (Ran status _) = code_of status
 code_of_end OpenFault = open_fault
 code_of_end (NoWords fault) = code_of (status_of_words fault)
+
+-- what the three things tell, each by what its trait tells of it
+abbrev pub tellings_of : {S O N : Type 0} → (S → Option (List ℕ)) → (S → ℕ) → (O → Option (List ℕ)) → (O → ℕ)
+    → (N → Option (List ℕ)) → (N → ℕ) → Things S O N → Tellings
+tellings_of left input_faults taken output_faults noted report_faults t =
+    tellings (told (left t.input) (input_faults t.input)) (told (taken t.output) (output_faults t.output)) (told_report noted report_faults t.report)
 
 -- P where a run ended with this status and left these things
 abbrev pub IfRan : {S O N : Type 0} → Ended S O N → (Status → Things S O N → Type 0) → Type 0

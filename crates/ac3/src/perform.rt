@@ -4,7 +4,7 @@ ghost use Rattle.ac_words.specs.Asked.{texts_of};
 ghost use Rattle.ac_app.specs.Lines.{status_line};
 ghost use Rattle.ac3.specs.Codes.{status_of_words};
 ghost use Rattle.ac3.specs.Deeds.{Deed, Did, asked, said, refused, report_file, told, told_report, tellings, is_dash, input_of, output_of, report_given, all_given, Stopped};
-ghost use Rattle.ac3.specs.Ends.{code_of_end, IfRan, IfOpenFault, IfNoWords, Leaves, RunsOn, StopsAt, Refuses};
+ghost use Rattle.ac3.specs.Ends.{code_of_end, IfRan, IfOpenFault, IfNoWords, Leaves, tellings_of, RunsOn, StopsAt, Refuses};
 
 use crate::desk::Desk;
 use ac_app::{Failed, Names, NullSink, Sink, Source, Status, WordsFault, names, run};
@@ -88,8 +88,7 @@ fn open_all<D: Desk>(
     named: Names<'_>,
 ) -> Result<Things<D::Input, D::Output, D::Report>, Failed>
     ensures ok { IfOk result (λ t. Did (D.done desk.old) (D.done desk.new) (all_given (texts_of named.entry)
-        (tellings (told (D.Input.left t.input) (D.Input.faults t.input)) (told (D.Output.held t.output) (D.Output.faults t.output))
-        (told_report D.Report.held D.Report.faults t.report)))) }
+        (tellings_of D.Input.left D.Input.faults D.Output.held D.Output.faults D.Report.held D.Report.faults t))) }
     ensures failed { OnErr result ((deeds : List Deed) × Stopped (texts_of named.entry) deeds × Did (D.done desk.old) (D.done desk.new) deeds) }
 {
     let Ok(input) = open_input(desk, named.from) else {
@@ -115,10 +114,8 @@ fn work<S: Source, O: Sink, N: Sink>(
     things: &mut Things<S, O, N>,
 ) -> Status
     ensures { Leaves (map string_bytes words.now) result
-        (tellings (told (S.left things.old.input) (S.faults things.old.input)) (told (O.held things.old.output) (O.faults things.old.output))
-        (told_report N.held N.faults things.old.report))
-        (tellings (told (S.left things.new.input) (S.faults things.new.input)) (told (O.held things.new.output) (O.faults things.new.output))
-        (told_report N.held N.faults things.new.report)) }
+        (tellings_of S.left S.faults O.held O.faults N.held N.faults things.old)
+        (tellings_of S.left S.faults O.held O.faults N.held N.faults things.new) }
 {
     let Things {
         input,
@@ -151,8 +148,7 @@ pub fn perform<D: Desk>(
     desk: &mut D,
 ) -> Ended<D::Input, D::Output, D::Report>
     ensures ran { IfRan result (λ status t. RunsOn (map string_bytes words.now) status (D.done desk.old) (D.done desk.new)
-        (tellings (told (D.Input.left t.input) (D.Input.faults t.input)) (told (D.Output.held t.output) (D.Output.faults t.output))
-        (told_report D.Report.held D.Report.faults t.report))) }
+        (tellings_of D.Input.left D.Input.faults D.Output.held D.Output.faults D.Report.held D.Report.faults t)) }
     ensures stopped { IfOpenFault result (StopsAt (map string_bytes words.now) (D.done desk.old) (D.done desk.new)) }
     ensures no_words { IfNoWords result (λ fault. Refuses (map string_bytes words.now) fault (D.done desk.old) (D.done desk.new)) }
 {
