@@ -30,10 +30,11 @@ abbrev pub asked : {A E : Type 0} → Thing → (A → Option (List ℕ)) → (A
 asked thing bytes faults (Ok x) = given thing (told (bytes x) (faults x))
 asked thing bytes faults (Err _) = refused thing
 
--- where the deeds are told, exactly these came behind the old ones
+-- where the deeds are still told, they were told before, and exactly these came behind the old ones
 abbrev pub Did : Option (List Deed) → Option (List Deed) → List Deed → Type 0
-Did None new deeds = Unit {0}
-Did (Some old) new deeds = new ≡ Some (old ++ deeds)
+Did old None deeds = Unit {0}
+Did None (Some new) deeds = ⊥
+Did (Some old) (Some new) deeds = new ≡ old ++ deeds
 
 -- ---- the three names
 
