@@ -14,7 +14,7 @@ pub trait Desk {
     /// What takes the report.
     type Report: Sink + Drop;
 
-    /// What was asked for and printed so far, where it is told.
+    /// What was asked for and printed so far, where it is told. A desk may cease to tell.
     ghost done: { Self → Option (List Deed) };
 
     /// Standard input.

@@ -34,6 +34,15 @@ impl Notes {
     fn sink(&self) -> MemSink {
         MemSink::new(Vec::new(self.alloc), Vec::new(self.alloc))
     }
+
+    /// Notes what is created, and gives it unless its name is refused.
+    fn create(&mut self, what: &str, name: &str) -> Result<MemSink, Failed> {
+        self.note(what, name);
+        if name == self.refused {
+            return Err(Failed);
+        }
+        Ok(self.sink())
+    }
 }
 
 impl Desk for Notes {
@@ -64,19 +73,11 @@ impl Desk for Notes {
     }
 
     fn create_output(&mut self, name: &str) -> Result<MemSink, Failed> {
-        self.note("output ", name);
-        if name == self.refused {
-            return Err(Failed);
-        }
-        Ok(self.sink())
+        self.create("output ", name)
     }
 
     fn create_report(&mut self, name: &str) -> Result<MemSink, Failed> {
-        self.note("report ", name);
-        if name == self.refused {
-            return Err(Failed);
-        }
-        Ok(self.sink())
+        self.create("report ", name)
     }
 
     fn say(&mut self, text: &str) {
