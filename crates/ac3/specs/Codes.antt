@@ -1,7 +1,7 @@
--- The program's exit codes.
-use Rattle.std.specs.Prelude.{◌≡◌, ◌⊎◌, ℕ}
-use Rattle.ac_app.specs.Lines.{code_of}
+-- The program's own exit codes, and the lines that it prints itself; the status lines and codes of runs are ac_app's.
+use Rattle.std.specs.Prelude.{ℕ, List, codes}
 use Rattle.ac_app.specs.declared.status.Status.{Status}
+use Rattle.ac_app.specs.declared.status.Status.TheVariants as statuses
 use Rattle.ac_words.specs.declared.fault.WordsFault.{WordsFault}
 use Rattle.ac_words.specs.declared.fault.WordsFault.TheVariants.{Usage, NoMemory}
 
@@ -9,11 +9,10 @@ use Rattle.ac_words.specs.declared.fault.WordsFault.TheVariants.{Usage, NoMemory
 abbrev pub open_fault : ℕ
 open_fault = 8
 
--- what a run answered, or that a name couldn't be opened or created
-abbrev pub IsCode : ℕ → Type 0
-IsCode code = (code ≡ open_fault) ⊎ ((status : Status) × (code ≡ code_of status))
+abbrev pub open_fault_line : List ℕ
+open_fault_line = codes "status 8 open fault\n"
 
 -- why there are no words to follow
-abbrev pub code_of_words : WordsFault → ℕ
-code_of_words Usage = 1
-code_of_words NoMemory = 9
+abbrev pub status_of_words : WordsFault → Status
+status_of_words Usage = statuses.Usage
+status_of_words NoMemory = statuses.NoMemory

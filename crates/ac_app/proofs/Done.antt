@@ -2,6 +2,7 @@
 use Rattle.std.proofs.Common.{◌≡◌, ℕ, ◌+◌, List, ◌++◌, length, Option, Some, ap, sym, subst, ◌∙◌, length-append}
 use Rattle.ac_base.specs.Rates.{IsRate}
 use Rattle.ac_frame.specs.Plain.{AreBytes}
+use Rattle.ac_io.specs.Outside.{Adds}
 use Rattle.ac_wav.specs.declared.head.WavHead.{WavHead}
 use Rattle.ac_wav.specs.Whole.{behind}
 use Rattle.ac_words.specs.Grammar.{Text, LastWords, encode}
@@ -36,31 +37,44 @@ one_rate ws rate other a b =
 some_same : (a b : List ℕ) → Some a ≡ Some b → a ≡ b
 some_same a b e = cc
 
-pub done_once : (ws : List Text) (bytes : List ℕ) (h : Held) (left now : Option (List ℕ)) (out said again lines : List ℕ) → AreBytes out → AreBytes again
-    → IsDone ws bytes h left (Some out) (Some said) → IsDone ws bytes h now (Some again) (Some lines) → (left ≡ now) × (out ≡ again) × (said ≡ lines)
-done_once ws bytes h left now out said again lines bs cs p q =
+-- where the old is told, so is the new
+told_adds : (a b : Option (List ℕ)) (before piece : List ℕ) → a ≡ Some before → Adds a b piece → b ≡ Some (before ++ piece)
+told_adds a b before piece e p = subst (λ (o : Option (List ℕ)). Adds o b piece) e p
+
+gained : (a b : Option (List ℕ)) (before now piece : List ℕ) → a ≡ Some before → b ≡ Some now → Adds a b piece → now ≡ before ++ piece
+gained a b before now piece e f p = some_same now (before ++ piece) (sym f ∙ told_adds a b before piece e p)
+
+pub same_left : (ws : List Text) (bytes : List ℕ) (left again : Option (List ℕ)) (h now g after : Held) → IsDone ws bytes left h now → IsDone ws bytes again g after → left ≡ again
+same_left ws bytes left again h now g after p q =
+    p.left ∙ (ap (λ (w : WavHead). Some (behind w bytes)) (one_input bytes p.head q.head p.input q.input) ∙ sym q.left)
+
+pub same_output : (ws : List Text) (bytes : List ℕ) (left again : Option (List ℕ)) (h now g after : Held) (before out other : List ℕ) → h.out ≡ Some before → g.out ≡ Some before → now.out ≡ Some out → after.out ≡ Some other
+    → AreBytes out → AreBytes other → IsDone ws bytes left h now → IsDone ws bytes again g after → out ≡ other
+same_output ws bytes left again h now g after before out other a b c d bs cs p q =
     let rate = one_rate ws q.rate p.rate q.asks p.asks in
     let head = one_input bytes q.head p.head q.input p.input in
     let sound = sound_of p.head bytes in
-    let k = frames_of sound in
-    let told = some_same out (h.out ++ p.stream) p.out in
-    let told_again = some_same again (h.out ++ q.stream) q.out in
+    let told = gained h.out now.out before out p.stream a c p.out in
+    let told_again = gained g.out after.out before other q.stream b d q.out in
     let at_rate = subst (λ (r : ℕ). IsStream r (sound_of q.head bytes) (frames_of (sound_of q.head bytes)) q.stream) rate q.is_stream in
     let stream_again = subst (λ (w : WavHead). IsStream p.rate (sound_of w bytes) (frames_of (sound_of w bytes)) q.stream) head at_rate in
-    let same = one_stream p.rate k sound p.stream q.stream (asked_rate ws p.rate p.asks) (sampling bytes p.head p.input) (bytes_right h.out p.stream out told bs) (bytes_right h.out q.stream again told_again cs) p.is_stream stream_again in
-    let report = some_same said (h.said ++ frame_lines p.rate sound k ++ status_line Ok) p.said in
-    let report_again = some_same lines (h.said ++ frame_lines q.rate (sound_of q.head bytes) (frames_of (sound_of q.head bytes)) ++ status_line Ok) q.said in (
-      p.left ∙ (ap (λ (w : WavHead). Some (behind w bytes)) (sym head) ∙ sym q.left),
-      told ∙ (ap (λ s. h.out ++ s) same ∙ sym told_again),
-      report
-          ∙ (ap (λ r. h.said ++ frame_lines r sound k ++ status_line Ok) (sym rate)
-          ∙ (ap (λ (w : WavHead). h.said ++ frame_lines q.rate (sound_of w bytes) (frames_of (sound_of w bytes)) ++ status_line Ok) (sym head) ∙ sym report_again)),
-    )
+    let same = one_stream p.rate (frames_of sound) sound p.stream q.stream (asked_rate ws p.rate p.asks) (sampling bytes p.head p.input) (bytes_right before p.stream out told bs) (bytes_right before q.stream other told_again cs) p.is_stream stream_again in
+    told ∙ (ap (λ s. before ++ s) same ∙ sym told_again)
 
-pub done_size : (ws : List Text) (bytes : List ℕ) (h : Held) (left said : Option (List ℕ)) (out : List ℕ) (p : IsDone ws bytes h left (Some out) said)
-    → length out ≡ length h.out + stream_size p.rate (sound_of p.head bytes) (frames_of (sound_of p.head bytes))
-done_size ws bytes h left said out p =
-    let told = some_same out (h.out ++ p.stream) p.out in
+pub same_report : (ws : List Text) (bytes : List ℕ) (left again : Option (List ℕ)) (h now g after : Held) (before : List ℕ) → h.said ≡ Some before → g.said ≡ Some before
+    → IsDone ws bytes left h now → IsDone ws bytes again g after → now.said ≡ after.said
+same_report ws bytes left again h now g after before a b p q =
+    let rate = one_rate ws p.rate q.rate p.asks q.asks in
+    let head = one_input bytes p.head q.head p.input q.input in
+    told_adds h.said now.said before (frame_lines p.rate (sound_of p.head bytes) (frames_of (sound_of p.head bytes)) ++ status_line Ok) a p.said
+    ∙ (ap (λ r. Some (before ++ (frame_lines r (sound_of p.head bytes) (frames_of (sound_of p.head bytes)) ++ status_line Ok))) rate
+    ∙ (ap (λ (w : WavHead). Some (before ++ (frame_lines q.rate (sound_of w bytes) (frames_of (sound_of w bytes)) ++ status_line Ok))) head
+    ∙ sym (told_adds g.said after.said before (frame_lines q.rate (sound_of q.head bytes) (frames_of (sound_of q.head bytes)) ++ status_line Ok) b q.said)))
+
+pub done_size : (ws : List Text) (bytes : List ℕ) (left : Option (List ℕ)) (h now : Held) (before out : List ℕ) (p : IsDone ws bytes left h now) → h.out ≡ Some before → now.out ≡ Some out
+    → length out ≡ length before + stream_size p.rate (sound_of p.head bytes) (frames_of (sound_of p.head bytes))
+done_size ws bytes left h now before out p a b =
+    let told = gained h.out now.out before out p.stream a b p.out in
     let sound = sound_of p.head bytes in
     let long = size p.rate (frames_of sound) sound p.stream (asked_rate ws p.rate p.asks) (sampling bytes p.head p.input) p.is_stream in
-    ap length told ∙ (length-append h.out p.stream ∙ ap (λ n. length h.out + n) long)
+    ap length told ∙ (length-append before p.stream ∙ ap (λ n. length before + n) long)

@@ -1,5 +1,5 @@
 -- How a run ends.
-use Rattle.std.proofs.Common.{◌≡◌, ℕ, ◌≤◌, arith, Bool, true, false, List, ◌++◌, Option, Some, refl, ap, ap₂, sym, subst, ◌∙◌, inl, inr}
+use Rattle.std.proofs.Common.{◌≡◌, ℕ, ◌≤◌, arith, Bool, true, false, List, Option, Some, refl, ap, ap₂, sym, subst, ◌∙◌}
 use Rattle.ac_io.specs.Outside.{Rose}
 use Rattle.ac_words.specs.Grammar.{Text, InGrammar}
 use Rattle.ac_wav.specs.declared.fault.WavKind.{WavKind}
@@ -9,10 +9,13 @@ use Rattle.ac_app.specs.declared.status.Status.{Status}
 use Rattle.ac_app.specs.declared.status.Status.TheVariants as statuses
 use Rattle.ac_app.specs.Input.{limit, IsInput, Refuses, IsTooLong}
 use Rattle.ac_app.specs.Lines.{status_line}
-use Rattle.ac_app.specs.Sound.{Sound, sound_of, frames_of}
+use Rattle.ac_app.specs.Sound.{sound_of, frames_of}
 use Rattle.ac_app.specs.Stream.{frame_lines}
-use Rattle.ac_app.specs.World.{Held}
-use Rattle.ac_app.specs.Run.{Counts, ReportRose, Broke, JobTakes, JobGives, Tail, answer_of, RunGives, IsDone}
+use Rattle.ac_app.specs.declared.frames.Stop.{Stop}
+use Rattle.ac_app.specs.declared.frames.Stop.TheVariants as stops
+use Rattle.ac_app.specs.World.{Held, held}
+use Rattle.ac_app.specs.Run.{Counts, StopRose, JobTakes, JobGives, Tail, answer_of, RunGives, IsDone}
+use Rattle.ac_app.proofs.Places.{adds_then}
 use Rattle.ac_app.proofs.Inputs.{never_both, never_longer, never_refused, one_input, one_refusal}
 
 -- ---- refusals
@@ -84,64 +87,41 @@ ok_answer statuses.NoMemory false e = absurd cc
 ok_answer (statuses.TooLong most) true e = absurd cc
 ok_answer (statuses.TooLong most) false e = absurd cc
 
--- ---- what a job leaves in the report is told
-
-abbrev IsTold : Option (List ℕ) → Type 0
-IsTold said = (before : List ℕ) × (said ≡ Some before)
-
-stream_tells : (rate : ℕ) (s : Sound) (old new : Counts) (h : Held) (out said : Option (List ℕ)) → Broke rate s old new h out said → IsTold said
-stream_tells rate s old new h out said (k, below, (after, f, inl (rose, failed))) = (after.said, failed.said)
-stream_tells rate s old new h out said (k, below, (after, f, inr (rose, failed))) = (_, failed.said)
-
-pub job_tells : (ws : List Text) (status : Status) (bytes : List ℕ) (old new : Counts) (h : Held) (out said : Option (List ℕ)) → JobGives ws status bytes old new h out said → IsTold said
-job_tells ws statuses.Ok bytes old new h out said g = (_, g.2.2.2.1)
-job_tells ws statuses.Usage bytes old new h out said g = (_, g.1)
-job_tells ws (statuses.BadWav kind place) bytes old new h out said g = (_, g.2.1)
-job_tells ws statuses.ReadFault bytes old new h out said g = (_, g.2.1)
-job_tells ws statuses.WriteFault bytes old new h out said g = stream_tells g.0 (sound_of g.2.0 bytes) old new h out said g.2.2
-job_tells ws statuses.NoMemory bytes old new h out said g = (_, g.1)
-job_tells ws (statuses.TooLong most) bytes old new h out said g = (_, g.2.1)
-
 -- ---- a count that rose in the job rose in the run
 
 later : (old mid now : ℕ) → mid ≤ now → Rose old mid → Rose old now
 later old mid now up rose = omega (arith, up, rose)
 
-broke_later : (rate : ℕ) (s : Sound) (old mid now : Counts) (h : Held) (out said : Option (List ℕ)) → mid.out ≤ now.out → mid.said ≤ now.said → Broke rate s old mid h out said → Broke rate s old now h out said
-broke_later rate s old mid now h out said o r (k, below, (after, f, inl (rose, failed))) = (k, below, (after, f, inl (later old.out mid.out now.out o rose, failed)))
-broke_later rate s old mid now h out said o r (k, below, (after, f, inr (rose, failed))) = (k, below, (after, f, inr (later old.said mid.said now.said r rose, failed)))
+stop_later : (stop : Stop) (old mid new : Counts) → mid.out ≤ new.out → mid.said ≤ new.said → StopRose stop old mid → StopRose stop old new
+stop_later stops.Output old mid new o r rose = later old.out mid.out new.out o rose
+stop_later stops.Report old mid new o r rose = later old.said mid.said new.said r rose
 
-gives_later : (ws : List Text) (status : Status) (bytes : List ℕ) (old mid now : Counts) (h : Held) (out said : Option (List ℕ)) → mid.out ≤ now.out → mid.said ≤ now.said
-    → JobGives ws status bytes old mid h out said → JobGives ws status bytes old now h out said
-gives_later ws statuses.Ok bytes old mid now h out said o r g = g
-gives_later ws statuses.Usage bytes old mid now h out said o r g = g
-gives_later ws (statuses.BadWav kind place) bytes old mid now h out said o r g = g
-gives_later ws statuses.ReadFault bytes old mid now h out said o r g = g
-gives_later ws statuses.WriteFault bytes old mid now h out said o r g =
-    (g.0, g.1, (g.2.0, g.2.1, broke_later g.0 (sound_of g.2.0 bytes) old mid now h out said o r g.2.2))
-gives_later ws statuses.NoMemory bytes old mid now h out said o r g = g
-gives_later ws (statuses.TooLong most) bytes old mid now h out said o r g = g
+gives_later : (ws : List Text) (status : Status) (bytes : List ℕ) (old mid new : Counts) (h now : Held) → mid.out ≤ new.out → mid.said ≤ new.said
+    → JobGives ws status bytes old mid h now → JobGives ws status bytes old new h now
+gives_later ws statuses.Ok bytes old mid new h now o r g = g
+gives_later ws statuses.Usage bytes old mid new h now o r g = g
+gives_later ws (statuses.BadWav kind place) bytes old mid new h now o r g = g
+gives_later ws statuses.ReadFault bytes old mid new h now o r g = g
+gives_later ws statuses.WriteFault bytes old mid new h now o r (rate, asks, (head, is, (stop, rose, leaves))) =
+    (rate, asks, (head, is, (stop, stop_later stop old mid new o r rose, leaves)))
+gives_later ws statuses.NoMemory bytes old mid new h now o r g = g
+gives_later ws (statuses.TooLong most) bytes old mid new h now o r g = g
 
 -- a status line that was cut is the report's fault
-pub cut_rose : (old mid now : Counts) (whole : Bool) → old.said ≤ mid.said → (whole ≡ false → Rose mid.said now.said) → whole ≡ false → ReportRose old now
-cut_rose old mid now whole up rose e = omega (arith, up, rose e)
+pub cut_rose : (old mid new : ℕ) (whole : Bool) → old ≤ mid → (whole ≡ false → Rose mid new) → whole ≡ false → Rose old new
+cut_rose old mid new whole up rose e = omega (arith, up, rose e)
 
 -- ---- all is done
 
-some_same : (a b : List ℕ) → Some a ≡ Some b → a ≡ b
-some_same a b e = cc
-
-all_done : (ws : List Text) (bytes : List ℕ) (old new : Counts) (h : Held) (left out said : Option (List ℕ)) → JobTakes ws statuses.Ok bytes left → RunGives ws statuses.Ok bytes old new h out said → IsDone ws bytes h left out said
-all_done ws bytes old new h left out said t r =
+all_done : (ws : List Text) (bytes : List ℕ) (old new : Counts) (left : Option (List ℕ)) (h now : Held) → JobTakes ws statuses.Ok bytes left → RunGives ws statuses.Ok bytes old new h now → IsDone ws bytes left h now
+all_done ws bytes old new left h now t r =
     let a = ok_answer r.status r.whole (sym r.answer) in
-    let job = subst (λ (s : Status). JobGives ws s bytes old new h out (Some r.before)) a.0 r.job in
-    let line = subst (λ (s : Status). Tail r.whole said r.before (status_line s)) a.0 r.line in
-    let whole = subst (λ (w : Bool). Tail w said r.before (status_line statuses.Ok)) a.1 line in
+    let job = subst (λ (s : Status). JobGives ws s bytes old new h (held now.out r.before)) a.0 r.job in
+    let line = subst (λ (s : Status). Tail r.whole r.before now.said (status_line s)) a.0 r.line in
+    let whole = subst (λ (w : Bool). Tail w r.before now.said (status_line statuses.Ok)) a.1 line in
     let head = job.2.0 in
-    let leaves = job.2.2 in
-    let f = leaves.1 in
+    let f = job.2.2 in
     let same = one_input bytes t.1.0 head t.1.1 job.2.1 in
-    let before : r.before ≡ h.said ++ frame_lines job.0 (sound_of head bytes) (frames_of (sound_of head bytes)) = some_same _ _ leaves.2.1 ∙ f.said in
     record {
       rate = job.0;
       asks = job.1;
@@ -150,8 +130,8 @@ all_done ws bytes old new h left out said t r =
       left = t.1.2 ∙ ap (λ (w : WavHead). Some (behind w bytes)) same;
       stream = f.stream;
       is_stream = f.is_stream;
-      out = leaves.2.0 ∙ ap (λ l. Some l) f.out;
-      said = whole ∙ ap (λ l. Some (l ++ status_line statuses.Ok)) before;
+      out = f.out;
+      said = adds_then h.said r.before now.said (frame_lines job.0 (sound_of head bytes) (frames_of (sound_of head bytes))) (status_line statuses.Ok) f.said whole;
     }
 
 -- ---- the clauses of the run
@@ -159,20 +139,19 @@ all_done ws bytes old new h left out said t r =
 pub run_takes : (ws : List Text) (status result : Status) (whole : Bool) (bytes : List ℕ) (left : Option (List ℕ)) → result ≡ answer_of status whole → JobTakes ws status bytes left → JobTakes ws result bytes left
 run_takes ws status result whole bytes left e t = subst (λ (s : Status). JobTakes ws s bytes left) (sym e) (takes_answer ws status whole bytes left t)
 
-pub run_gives : (ws : List Text) (status result : Status) (whole : Bool) (bytes : List ℕ) (old between now : Counts) (h : Held) (out mid said : Option (List ℕ)) → result ≡ answer_of status whole → between.out ≤ now.out → between.said ≤ now.said
-    → JobGives ws status bytes old between h out mid → ((before : List ℕ) → mid ≡ Some before → Tail whole said before (status_line status)) → (whole ≡ false → ReportRose old now) → RunGives ws result bytes old now h out said
-run_gives ws status result whole bytes old between now h out mid said e o r g tail cut =
-    let before = job_tells ws status bytes old between h out mid g in
+pub run_gives : (ws : List Text) (status result : Status) (whole : Bool) (bytes : List ℕ) (old between new : Counts) (before : Option (List ℕ)) (h now : Held) → result ≡ answer_of status whole → between.out ≤ new.out → between.said ≤ new.said
+    → JobGives ws status bytes old between h (held now.out before) → Tail whole before now.said (status_line status) → (whole ≡ false → Rose old.said new.said) → RunGives ws result bytes old new h now
+run_gives ws status result whole bytes old between new before h now e o r g line cut =
     record {
       status = status;
       whole = whole;
       answer = e;
-      before = before.0;
-      job = subst (λ (s : Option (List ℕ)). JobGives ws status bytes old now h out s) before.1 (gives_later ws status bytes old between now h out mid o r g);
-      line = tail before.0 before.1;
+      before = before;
+      job = gives_later ws status bytes old between new h (held now.out before) o r g;
+      line = line;
       cut = cut;
     }
 
-pub is_done : (ws : List Text) (result : Status) (bytes : List ℕ) (old new : Counts) (h : Held) (left out said : Option (List ℕ)) → JobTakes ws result bytes left → RunGives ws result bytes old new h out said → result ≡ statuses.Ok → IsDone ws bytes h left out said
-is_done ws result bytes old new h left out said t r e =
-    all_done ws bytes old new h left out said (subst (λ (s : Status). JobTakes ws s bytes left) e t) (subst (λ (s : Status). RunGives ws s bytes old new h out said) e r)
+pub is_done : (ws : List Text) (result : Status) (bytes : List ℕ) (old new : Counts) (left : Option (List ℕ)) (h now : Held) → JobTakes ws result bytes left → RunGives ws result bytes old new h now → result ≡ statuses.Ok → IsDone ws bytes left h now
+is_done ws result bytes old new left h now t r e =
+    all_done ws bytes old new left h now (subst (λ (s : Status). JobTakes ws s bytes left) e t) (subst (λ (s : Status). RunGives ws s bytes old new h now) e r)

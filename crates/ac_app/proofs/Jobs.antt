@@ -33,11 +33,11 @@ job_takes ws statuses.WriteFault bytes left g h = (g, h)
 job_takes ws statuses.NoMemory bytes left g h = tt
 job_takes ws (statuses.TooLong most) bytes left g h = (g, h)
 
-pub job_gives : (ws : List Text) (rate : ℕ) (status : Status) (bytes : List ℕ) (old new : Counts) (h : Held) (out said : Option (List ℕ)) → AsksEncode ws rate → EncodeGives rate status bytes old new h out said → JobGives ws status bytes old new h out said
-job_gives ws rate statuses.Ok bytes old new h out said a e = (rate, a, e)
-job_gives ws rate statuses.Usage bytes old new h out said a e = absurd e
-job_gives ws rate (statuses.BadWav kind place) bytes old new h out said a e = (rate, a, e)
-job_gives ws rate statuses.ReadFault bytes old new h out said a e = (rate, a, e)
-job_gives ws rate statuses.WriteFault bytes old new h out said a e = (rate, a, e)
-job_gives ws rate statuses.NoMemory bytes old new h out said a e = e
-job_gives ws rate (statuses.TooLong most) bytes old new h out said a e = (rate, a, e)
+pub job_gives : (ws : List Text) (rate : ℕ) (status : Status) (bytes : List ℕ) (old new : Counts) (h now : Held) → AsksEncode ws rate → EncodeGives rate status bytes old new h now → JobGives ws status bytes old new h now
+job_gives ws rate statuses.Ok bytes old new h now a e = (rate, a, e)
+job_gives ws rate statuses.Usage bytes old new h now a e = e
+job_gives ws rate (statuses.BadWav kind place) bytes old new h now a e = (rate, a, e)
+job_gives ws rate statuses.ReadFault bytes old new h now a e = (rate, a, e)
+job_gives ws rate statuses.WriteFault bytes old new h now a e = (rate, a, e)
+job_gives ws rate statuses.NoMemory bytes old new h now a e = e
+job_gives ws rate (statuses.TooLong most) bytes old new h now a e = (rate, a, e)

@@ -1,18 +1,18 @@
 -- The places of a frame, and those of the next.
-use Rattle.std.proofs.Common.{◌≡◌, ℕ, suc, ◌+◌, ◌-◌, ◌*◌, ◌^◌, ◌≤◌, ◌<◌, List, [], ◌++◌, length, take, drop, Option, Some, Result, Ok, Err, refl, ap, sym, subst, ◌∙◌, arith, inl, inr, ℤ, pos, slice_index_or, append_assoc, unsigned_abs, replicate, lit≤}
+use Rattle.std.proofs.Common.{◌≡◌, ℕ, suc, ◌+◌, ◌-◌, ◌*◌, ◌^◌, ◌≤◌, ◌<◌, List, [], ◌++◌, length, drop, Option, Some, None, Result, Ok, Err, refl, ap, sym, subst, ◌∙◌, arith, inl, inr, ℤ, pos, slice_index_or, append_assoc, unsigned_abs, replicate, lit≤}
 use Rattle.std.specs.Prelude.{slice_range, if◌then◌else◌}
 use Rattle.std.proofs.lemmas.Bool.{cases_lt, lt-ltb, le-ltb}
 use Rattle.std.proofs.lemmas.List.{append-nil, get_or_append_left, get_or-append-add, get_or-drop, get_or-take, get_or-replicate}
 use Rattle.ac_base.specs.Sigma.{Within, Lists}
 use Rattle.ac_base.specs.Sizes.{frame_words_of}
 use Rattle.ac_enc.specs.Frame.{IsFrame, joined}
+use Rattle.ac_io.specs.Outside.{Adds}
 use Rattle.ac_enc.proofs.Places.{frame_same}
 use Rattle.ac_app.specs.Sound.{Sound, AreSamples, sound_at}
 use Rattle.ac_app.specs.Lines.{frame_line}
 use Rattle.ac_app.specs.Stream.{places, IsStream, frame_lines, frame_size}
-use Rattle.ac_app.specs.World.{Held, Holds, Frames, Wrote, Emits, Stops, IsLast, FrameLeaves, FramesLeave}
+use Rattle.ac_app.specs.World.{Held, Frames, Emits, IsLast, FrameLeaves, FramesLeave}
 use Rattle.ac_app.specs.declared.frames.Stop.{Stop}
-use Rattle.ac_app.specs.declared.frames.Stop.TheVariants as stops
 
 before_sound : (s : Sound) (p : ℕ) → p < 256 → sound_at s p ≡ pos 0
 unfolding sound_at
@@ -75,49 +75,48 @@ last_bound pcm last same within p below =
 
 -- ---- one frame
 
-frame_leaves : (rate : ℕ) (s : Sound) (i : ℕ) (result : Result (Unit {0}) Stop) (h : Held) (last : List ℤ) (out said : Option (List ℕ)) (frame : List ℕ)
-    → length frame ≡ frame_size rate s i → IsFrame rate s.fscod i (places s i) frame → IsLast s (i + 1) last
-    → Emits i frame result h out said → FrameLeaves rate s i result h last out said
-frame_leaves rate s i (Ok u) h last out said frame size is next e =
-    (record { frame = frame; is_frame = is; out = e.0; said = e.1 ∙ ap (λ n. Some (h.said ++ frame_line i n)) size }, next)
-frame_leaves rate s i (Err stops.Output) h last out said frame size is next e =
-    record { frame = frame; is_frame = is; taken = e.0.0; out = e.0.1; said = e.1 }
-frame_leaves rate s i (Err stops.Report) h last out said frame size is next e =
-    record { frame = frame; is_frame = is; out = e.0; taken = e.1.0; said = e.1.1 ∙ ap (λ n. Some (h.said ++ take e.1.0 (frame_line i n))) size }
-
-pub frame_emitted : (rate fscod : ℕ) (s : Sound) (i : ℕ) (result : Result (Unit {0}) Stop) (h : Held) (last : List ℤ) (out said : Option (List ℕ)) (frame : List ℕ)
-    → s.fscod ≡ fscod → length frame ≡ 2 * frame_words_of rate fscod i → IsFrame rate fscod i (places s i) frame → IsLast s (i + 1) last
-    → Emits i frame result h out said → FrameLeaves rate s i result h last out said
-frame_emitted rate fscod s i result h last out said frame same long is next e =
+pub frame_emitted : (rate fscod : ℕ) (s : Sound) (i : ℕ) (result : Result (Unit {0}) Stop) (h now : Held) (frame : List ℕ)
+    → s.fscod ≡ fscod → length frame ≡ 2 * frame_words_of rate fscod i → IsFrame rate fscod i (places s i) frame
+    → Emits frame (frame_line i (length frame)) result h now → FrameLeaves rate s i result h now
+frame_emitted rate fscod s i result h now frame same long is e =
     let size : length frame ≡ frame_size rate s i = long ∙ ap (λ f. 2 * frame_words_of rate f i) (sym same) in
-    let frame_is = subst (λ (f : ℕ). IsFrame rate f i (places s i) frame) (sym same) is in
-    frame_leaves rate s i result h last out said frame size frame_is next e
+    record {
+      frame = frame;
+      is_frame = subst (λ (f : ℕ). IsFrame rate f i (places s i) frame) (sym same) is;
+      emits = subst (λ (n : ℕ). Emits frame (frame_line i n) result h now) size e;
+    }
 
 -- ---- the frames
 
+adds_nothing : (a : Option (List ℕ)) → Adds a a []
+adds_nothing None = tt
+adds_nothing (Some before) = ap (λ l. Some l) (sym (append-nil before))
+
+pub adds_then : (a b c : Option (List ℕ)) (first second : List ℕ) → Adds a b first → Adds b c second → Adds a c (first ++ second)
+adds_then None b c first second p q = tt
+adds_then (Some before) b c first second p q =
+    subst (λ (o : Option (List ℕ)). Adds o c second) p q ∙ ap (λ l. Some l) (append_assoc before first second)
+
 pub no_frames : (rate : ℕ) (s : Sound) (h : Held) → Frames rate s 0 h h
 unfolding IsStream frame_lines
-no_frames rate s h = record { stream = []; is_stream = refl; out = sym (append-nil h.out); said = sym (append-nil h.said) }
+no_frames rate s h = record { stream = []; is_stream = refl; out = adds_nothing h.out; said = adds_nothing h.said }
 
-pub one_more : (rate : ℕ) (s : Sound) (k : ℕ) (h after : Held) (out said : Option (List ℕ)) → Frames rate s k h after → Wrote rate s k after out said
-    → (next : Held) × Frames rate s (k + 1) h next × Holds next out said
+pub one_more : (rate : ℕ) (s : Sound) (k : ℕ) (u : Unit {0}) (h between now : Held) → Frames rate s k h between → FrameLeaves rate s k (Ok u) between now → Frames rate s (k + 1) h now
 unfolding IsStream frame_lines
-one_more rate s k h after out said f w =
+one_more rate s k u h between now f w =
     let more : suc k ≡ k + 1 = omega arith in
-    let line = frame_line k (frame_size rate s k) in
     let is_stream : IsStream rate s (suc k) (f.stream ++ w.frame) = (f.stream, w.frame, f.is_stream, w.is_frame, refl) in
-    let out_is : after.out ++ w.frame ≡ h.out ++ (f.stream ++ w.frame) = ap (λ l. l ++ w.frame) f.out ∙ append_assoc h.out f.stream w.frame in
-    let said_is : after.said ++ line ≡ h.said ++ frame_lines rate s (suc k) = ap (λ l. l ++ line) f.said ∙ append_assoc h.said (frame_lines rate s k) line in (
-      record { out = after.out ++ w.frame; said = after.said ++ line },
-      record {
-        stream = f.stream ++ w.frame;
-        is_stream = subst (λ (n : ℕ). IsStream rate s n (f.stream ++ w.frame)) more is_stream;
-        out = out_is;
-        said = said_is ∙ ap (λ n. h.said ++ frame_lines rate s n) more;
-      },
-      (w.out, w.said),
-    )
+    let said : Adds h.said now.said (frame_lines rate s (suc k)) = adds_then h.said between.said now.said (frame_lines rate s k) (frame_line k (frame_size rate s k)) f.said w.emits.1 in
+    record {
+      stream = f.stream ++ w.frame;
+      is_stream = subst (λ (n : ℕ). IsStream rate s n (f.stream ++ w.frame)) more is_stream;
+      out = adds_then h.out between.out now.out f.stream w.frame f.out w.emits.0;
+      said = subst (λ (n : ℕ). Adds h.said now.said (frame_lines rate s n)) more said;
+    }
 
-pub stopped : (rate : ℕ) (s : Sound) (count i : ℕ) (stop : Stop) (h after : Held) (out said : Option (List ℕ)) → i < count → Frames rate s i h after
-    → Stops stop rate s i after out said → FramesLeave rate s count (Err stop) h out said
-stopped rate s count i stop h after out said below f stops_so = (i, below, (after, f, stops_so))
+pub so_many : (rate : ℕ) (s : Sound) (k count : ℕ) (h now : Held) → k ≡ count → Frames rate s k h now → Frames rate s count h now
+so_many rate s k count h now e f = subst (λ (n : ℕ). Frames rate s n h now) e f
+
+pub stopped : (rate : ℕ) (s : Sound) (count i : ℕ) (stop : Stop) (h between now : Held) → i < count → Frames rate s i h between
+    → FrameLeaves rate s i (Err stop) between now → FramesLeave rate s count (Err stop) h now
+stopped rate s count i stop h between now below f stops_so = (i, below, (between, f, stops_so))

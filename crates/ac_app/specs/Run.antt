@@ -1,19 +1,21 @@
 -- What a run leaves, by its answer.
-use Rattle.std.specs.Prelude.{◌≡◌, ◌⊎◌, ℕ, ◌<◌, Bool, true, false, List, ◌++◌, take, Option, Some}
-use Rattle.ac_io.specs.Outside.{Rose}
+use Rattle.std.specs.Prelude.{◌≡◌, ℕ, Bool, true, false, List, ◌++◌, Option, Some, Err}
+use Rattle.ac_io.specs.Outside.{Rose, Adds, AddsFront}
 use Rattle.ac_words.specs.Grammar.{Text, LastWords, Means, encode, InGrammar}
 use Rattle.ac_words.specs.declared.meaning.Command.{Command}
 use Rattle.ac_words.specs.declared.meaning.Command.TheVariants.{Encode}
 use Rattle.ac_words.specs.declared.meaning.Options.{Options}
 use Rattle.ac_app.specs.declared.status.Status.{Status}
 use Rattle.ac_app.specs.declared.status.Status.TheVariants.{Ok, Usage, BadWav, ReadFault, WriteFault, NoMemory, TooLong}
+use Rattle.ac_app.specs.declared.frames.Stop.{Stop}
+use Rattle.ac_app.specs.declared.frames.Stop.TheVariants as stops
 use Rattle.ac_wav.specs.declared.head.WavHead.{WavHead}
 use Rattle.ac_wav.specs.Whole.{behind}
 use Rattle.ac_app.specs.Input.{limit, IsInput, Refuses, IsTooLong}
 use Rattle.ac_app.specs.Lines.{status_line}
 use Rattle.ac_app.specs.Sound.{Sound, sound_of, frames_of}
 use Rattle.ac_app.specs.Stream.{IsStream, frame_lines}
-use Rattle.ac_app.specs.World.{Held, Holds, Frames, OutputFailed, ReportFailed}
+use Rattle.ac_app.specs.World.{Held, held, Frames, FramesLeave}
 
 -- ---- the frames of the sound
 
@@ -25,23 +27,16 @@ pub record Counts : Type 0 where
 abbrev pub counts : ℕ → ℕ → Counts
 counts out said = record { out = out; said = said }
 
-abbrev pub OutputRose : Counts → Counts → Type 0
-OutputRose old new = Rose old.out new.out
+-- the count rose of the sink that stopped the frames
+abbrev pub StopRose : Stop → Counts → Counts → Type 0
+StopRose stops.Output old new = Rose old.out new.out
+StopRose stops.Report old new = Rose old.said new.said
 
-abbrev pub ReportRose : Counts → Counts → Type 0
-ReportRose old new = Rose old.said new.said
-
--- after k whole frames and their lines a write failed, of the sink whose count rose
-abbrev pub Broke : ℕ → Sound → Counts → Counts → Held → Option (List ℕ) → Option (List ℕ) → Type 0
-Broke rate s old new h out said =
-    (k : ℕ) × (k < frames_of s) × ((after : Held) × Frames rate s k h after
-    × ((OutputRose old new × OutputFailed rate s k after out said) ⊎ (ReportRose old new × ReportFailed rate s k after out said)))
-
--- what writing the frames of a sound leaves
-abbrev pub StreamLeaves : ℕ → Sound → Status → Counts → Counts → Held → Option (List ℕ) → Option (List ℕ) → Type 0
-StreamLeaves rate s Ok old new h out said = (after : Held) × Frames rate s (frames_of s) h after × Holds after out said
-StreamLeaves rate s WriteFault old new h out said = Broke rate s old new h out said
-StreamLeaves rate s _ old new h out said = ⊥
+-- what writing the frames of a sound leaves: all of them, or those before a write that failed
+abbrev pub StreamLeaves : ℕ → Sound → Status → Counts → Counts → Held → Held → Type 0
+StreamLeaves rate s Ok old new h now = Frames rate s (frames_of s) h now
+StreamLeaves rate s WriteFault old new h now = (stop : Stop) × StopRose stop old new × FramesLeave rate s (frames_of s) (Err stop) h now
+StreamLeaves rate s _ old new h now = ⊥
 
 -- ---- the command encode
 
@@ -60,18 +55,14 @@ EncodeTakes NoMemory bytes left = Unit {0}
 EncodeTakes (TooLong most) bytes left = IsTooLong bytes × (most ≡ limit)
 
 -- the frames of the sound of a mono WAV
-abbrev pub StreamGives : ℕ → Status → List ℕ → Counts → Counts → Held → Option (List ℕ) → Option (List ℕ) → Type 0
-StreamGives rate status bytes old new h out said = (head : WavHead) × IsInput bytes head × StreamLeaves rate (sound_of head bytes) status old new h out said
+abbrev pub StreamGives : ℕ → Status → List ℕ → Counts → Counts → Held → Held → Type 0
+StreamGives rate status bytes old new h now = (head : WavHead) × IsInput bytes head × StreamLeaves rate (sound_of head bytes) status old new h now
 
--- what encode gives: nothing, or the frames of the sound
-abbrev pub EncodeGives : ℕ → Status → List ℕ → Counts → Counts → Held → Option (List ℕ) → Option (List ℕ) → Type 0
-EncodeGives rate Ok bytes old new h out said = StreamGives rate Ok bytes old new h out said
-EncodeGives rate Usage bytes old new h out said = ⊥
-EncodeGives rate (BadWav kind place) bytes old new h out said = Holds h out said
-EncodeGives rate ReadFault bytes old new h out said = Holds h out said
-EncodeGives rate WriteFault bytes old new h out said = StreamGives rate WriteFault bytes old new h out said
-EncodeGives rate NoMemory bytes old new h out said = Holds h out said
-EncodeGives rate (TooLong most) bytes old new h out said = Holds h out said
+-- what encode gives: the frames of the sound, or nothing
+abbrev pub EncodeGives : ℕ → Status → List ℕ → Counts → Counts → Held → Held → Type 0
+EncodeGives rate Ok bytes old new h now = StreamGives rate Ok bytes old new h now
+EncodeGives rate WriteFault bytes old new h now = StreamGives rate WriteFault bytes old new h now
+EncodeGives rate _ bytes old new h now = now ≡ h
 
 -- ---- the job
 
@@ -90,35 +81,35 @@ JobTakes ws NoMemory bytes left = Unit {0}
 JobTakes ws status bytes left = InGrammar ws × EncodeTakes status bytes left
 
 -- what a job gives
-abbrev pub JobGives : List Text → Status → List ℕ → Counts → Counts → Held → Option (List ℕ) → Option (List ℕ) → Type 0
-JobGives ws Usage bytes old new h out said = Holds h out said
-JobGives ws NoMemory bytes old new h out said = Holds h out said
-JobGives ws status bytes old new h out said = (rate : ℕ) × AsksEncode ws rate × EncodeGives rate status bytes old new h out said
+abbrev pub JobGives : List Text → Status → List ℕ → Counts → Counts → Held → Held → Type 0
+JobGives ws Usage bytes old new h now = now ≡ h
+JobGives ws NoMemory bytes old new h now = now ≡ h
+JobGives ws status bytes old new h now = (rate : ℕ) × AsksEncode ws rate × EncodeGives rate status bytes old new h now
 
 -- ---- the run: a job, and then its status line
 
 -- a line was written whole, or a front of it
-abbrev pub Tail : Bool → Option (List ℕ) → List ℕ → List ℕ → Type 0
-Tail true said before line = said ≡ Some (before ++ line)
-Tail false said before line = (t : ℕ) × (said ≡ Some (before ++ take t line))
+abbrev pub Tail : Bool → Option (List ℕ) → Option (List ℕ) → List ℕ → Type 0
+Tail true before said line = Adds before said line
+Tail false before said line = AddsFront before said line
 
 -- a status line that could not be written turns Ok into WriteFault
 abbrev pub answer_of : Status → Bool → Status
 answer_of Ok false = WriteFault
 answer_of status _ = status
 
--- what a run gives, where the source and both sinks tell their bytes: the status line is cut only where a call of the report failed
-pub record RunGives (ws : List Text) (result : Status) (bytes : List ℕ) (old new : Counts) (h : Held) (out_now said_now : Option (List ℕ)) : Type 0 where
+-- what a run gives, where the source tells its bytes: the status line is cut only where a call of the report failed
+pub record RunGives (ws : List Text) (result : Status) (bytes : List ℕ) (old new : Counts) (h now : Held) : Type 0 where
   pub status : Status
   pub whole : Bool
   pub answer : result ≡ answer_of status whole
-  pub before : List ℕ
-  pub job : JobGives ws status bytes old new h out_now (Some before)
-  pub line : Tail whole said_now before (status_line status)
-  pub cut : whole ≡ false → ReportRose old new
+  pub before : Option (List ℕ)
+  pub job : JobGives ws status bytes old new h (held now.out before)
+  pub line : Tail whole before now.said (status_line status)
+  pub cut : whole ≡ false → Rose old.said new.said
 
 -- all is done: the frames of the sound, their lines, and the status line
-pub record IsDone (ws : List Text) (bytes : List ℕ) (h : Held) (left_now out_now said_now : Option (List ℕ)) : Type 0 where
+pub record IsDone (ws : List Text) (bytes : List ℕ) (left_now : Option (List ℕ)) (h now : Held) : Type 0 where
   pub rate : ℕ
   pub asks : AsksEncode ws rate
   pub head : WavHead
@@ -126,5 +117,5 @@ pub record IsDone (ws : List Text) (bytes : List ℕ) (h : Held) (left_now out_n
   pub left : left_now ≡ Some (behind head bytes)
   pub stream : List ℕ
   pub is_stream : IsStream rate (sound_of head bytes) (frames_of (sound_of head bytes)) stream
-  pub out : out_now ≡ Some (h.out ++ stream)
-  pub said : said_now ≡ Some (h.said ++ frame_lines rate (sound_of head bytes) (frames_of (sound_of head bytes)) ++ status_line Ok)
+  pub out : Adds h.out now.out stream
+  pub said : Adds h.said now.said (frame_lines rate (sound_of head bytes) (frames_of (sound_of head bytes)) ++ status_line Ok)

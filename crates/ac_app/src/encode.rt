@@ -6,7 +6,7 @@ ghost use Rattle.ac_base.specs.Rates.{IsRate};
 ghost use Rattle.ac_wav.specs.Pieces.{TakesAtMost};
 ghost use Rattle.ac_app.specs.Input.{limit};
 ghost use Rattle.ac_app.specs.Sound.{Sound, AreSamples};
-ghost use Rattle.ac_app.specs.World.{Held, Holds};
+ghost use Rattle.ac_app.specs.World.{held};
 ghost use Rattle.ac_app.specs.Run.{counts, StreamLeaves, EncodeTakes, EncodeGives};
 ghost use Rattle.ac_app.specs.declared.status.Status.TheVariants.{Ok, Usage, ReadFault, WriteFault, NoMemory};
 
@@ -29,8 +29,8 @@ fn write_frames<O: Sink, N: Sink>(
     requires sampling { gathered.now.fscod ≤ 2 }
     requires samples { Within (2 ^ 23) (length gathered.now.samples.items) gathered.now.samples.items }
     requires count { length gathered.now.samples.items < 2 ^ 27 }
-    ensures leaves { (s : Sound) (h : Held) → s.fscod ≡ gathered.now.fscod → AreSamples s gathered.now.samples.items → Holds h (O.held output.old) (N.held report.old)
-        → StreamLeaves rate s result (counts (O.faults output.old) (N.faults report.old)) (counts (O.faults output.new) (N.faults report.new)) h (O.held output.new) (N.held report.new) }
+    ensures leaves { (s : Sound) → s.fscod ≡ gathered.now.fscod → AreSamples s gathered.now.samples.items
+        → StreamLeaves rate s result (counts (O.faults output.old) (N.faults report.old)) (counts (O.faults output.new) (N.faults report.new)) (held (O.held output.old) (N.held report.old)) (held (O.held output.new) (N.held report.new)) }
     ensures ends { (result ≡ Status.Ok) ⊎ (result ≡ Status.WriteFault) }
     ensures write { result ≡ Status.WriteFault → Rose (O.faults output.old) (O.faults output.new) ⊎ Rose (N.faults report.old) (N.faults report.new) }
     ensures output_count { O.faults output.old ≤ O.faults output.new }
@@ -58,8 +58,8 @@ pub fn encode<S: Source, O: Sink, N: Sink>(
 ) -> Status
     requires { IsRate rate }
     ensures takes { (bytes : List ℕ) → S.left input.old ≡ Some bytes → EncodeTakes result bytes (S.left input.new) }
-    ensures gives { (bytes : List ℕ) (h : Held) → S.left input.old ≡ Some bytes → Holds h (O.held output.old) (N.held report.old)
-        → EncodeGives rate result bytes (counts (O.faults output.old) (N.faults report.old)) (counts (O.faults output.new) (N.faults report.new)) h (O.held output.new) (N.held report.new) }
+    ensures gives { (bytes : List ℕ) → S.left input.old ≡ Some bytes
+        → EncodeGives rate result bytes (counts (O.faults output.old) (N.faults report.old)) (counts (O.faults output.new) (N.faults report.new)) (held (O.held output.old) (N.held report.old)) (held (O.held output.new) (N.held report.new)) }
     ensures not_usage { result ≢ Status.Usage }
     ensures unwritten { result ≢ Status.Ok → result ≢ Status.WriteFault → (output.new ≡ output.old) × (report.new ≡ report.old) }
     ensures most_read { (bytes : List ℕ) → S.left input.old ≡ Some bytes → TakesAtMost bytes (limit + 1) (S.left input.new) }

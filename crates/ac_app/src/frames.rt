@@ -9,7 +9,8 @@ ghost use Rattle.ac_base.specs.Sizes.{frame_words_of};
 ghost use Rattle.ac_app.specs.Sound.{Sound, AreSamples};
 ghost use Rattle.ac_app.specs.Stream.{places, frame_size};
 ghost use Rattle.ac_app.specs.declared.frames.Stop.TheVariants as stops;
-ghost use Rattle.ac_app.specs.World.{Held, Holds, Emits, IsLast, FrameLeaves, FramesLeave};
+ghost use Rattle.ac_app.specs.Lines.{frame_line};
+ghost use Rattle.ac_app.specs.World.{held, Emits, IsLast, FrameLeaves, FramesLeave};
 
 use crate::lines;
 use crate::sound::own_samples;
@@ -25,8 +26,7 @@ pub enum Stop {
 
 /// Writes a frame and reports it.
 fn emit<O: Sink, N: Sink>(i: u32, frame: &[u8], output: &mut O, report: &mut N) -> Result<(), Stop>
-    ensures leaves { (h : Held) → Holds h (O.held output.old) (N.held report.old)
-        → Emits i frame.now result h (O.held output.new) (N.held report.new) }
+    ensures leaves { Emits frame.now (frame_line i (length frame.now)) result (held (O.held output.old) (N.held report.old)) (held (O.held output.new) (N.held report.new)) }
     ensures output { IsErrOf result Stop.Output → Rose (O.faults output.old) (O.faults output.new) }
     ensures report { IsErrOf result Stop.Report → Rose (N.faults report.old) (N.faults report.new) }
     ensures output_count { O.faults output.old ≤ O.faults output.new }
@@ -94,9 +94,10 @@ fn frame<O: Sink, N: Sink>(
     requires sampling { pace.fscod ≤ 2 }
     requires last { Within (2 ^ 23) 256 last.old }
     requires samples { Within (2 ^ 23) (length samples.now) samples.now }
-    ensures leaves { (s : Sound) (h : Held) → s.fscod ≡ pace.fscod → AreSamples s samples.now → IsLast s i last.old → Holds h (O.held output.old) (N.held report.old)
-        → FrameLeaves pace.rate s i result h last.new (O.held output.new) (N.held report.new) }
-    ensures bound { OnOk result (Within (2 ^ 23) 256 last.new) }
+    ensures leaves { (s : Sound) → s.fscod ≡ pace.fscod → AreSamples s samples.now → IsLast s i last.old
+        → FrameLeaves pace.rate s i result (held (O.held output.old) (N.held report.old)) (held (O.held output.new) (N.held report.new)) }
+    ensures next { (s : Sound) → s.fscod ≡ pace.fscod → AreSamples s samples.now → IsLast s i last.old → IsLast s (i + 1) last.new }
+    ensures bound { Within (2 ^ 23) 256 last.new }
     ensures output { IsErrOf result Stop.Output → Rose (O.faults output.old) (O.faults output.new) }
     ensures report { IsErrOf result Stop.Report → Rose (N.faults report.old) (N.faults report.new) }
     ensures output_count { O.faults output.old ≤ O.faults output.new }
@@ -127,8 +128,8 @@ pub fn frames<O: Sink, N: Sink>(
     requires rate { IsRate pace.rate }
     requires sampling { pace.fscod ≤ 2 }
     requires samples { Within (2 ^ 23) (length samples.now) samples.now }
-    ensures leaves { (s : Sound) (h : Held) → s.fscod ≡ pace.fscod → AreSamples s samples.now → Holds h (O.held output.old) (N.held report.old)
-        → FramesLeave pace.rate s count result h (O.held output.new) (N.held report.new) }
+    ensures leaves { (s : Sound) → s.fscod ≡ pace.fscod → AreSamples s samples.now
+        → FramesLeave pace.rate s count result (held (O.held output.old) (N.held report.old)) (held (O.held output.new) (N.held report.new)) }
     ensures output { IsErrOf result Stop.Output → Rose (O.faults output.old) (O.faults output.new) }
     ensures report { IsErrOf result Stop.Report → Rose (N.faults report.old) (N.faults report.new) }
     ensures output_count { O.faults output.old ≤ O.faults output.new }

@@ -34,11 +34,14 @@ pub fn input_law()
     ensures one_refusal { (bytes : List ℕ) (kind other : WavKind) (place there : ℕ) → Refuses bytes kind place → Refuses bytes other there → (kind ≡ other) × (place ≡ there) }
 {}
 
-/// A run that did all leaves one thing: the words, the input and what the sinks held tell what is left of the input,
-/// the output and the report. The output gains the bytes that the report states.
+/// A run that did all leaves one thing: the words and the input tell what is left of the input, what an output that
+/// tells its bytes gained, and what a report that tells them gained. The output gains the bytes that the report states.
 pub fn run_law()
-    ensures one { (ws : List Text) (bytes : List ℕ) (h : Held) (left now : Option (List ℕ)) (out said again lines : List ℕ) → AreBytes out → AreBytes again
-        → IsDone ws bytes h left (Some out) (Some said) → IsDone ws bytes h now (Some again) (Some lines) → (left ≡ now) × (out ≡ again) × (said ≡ lines) }
-    ensures size { (ws : List Text) (bytes : List ℕ) (h : Held) (left said : Option (List ℕ)) (out : List ℕ) (p : IsDone ws bytes h left (Some out) said)
-        → length out ≡ length h.out + stream_size p.rate (sound_of p.head bytes) (frames_of (sound_of p.head bytes)) }
+    ensures left { (ws : List Text) (bytes : List ℕ) (left again : Option (List ℕ)) (h now g after : Held) → IsDone ws bytes left h now → IsDone ws bytes again g after → left ≡ again }
+    ensures output { (ws : List Text) (bytes : List ℕ) (left again : Option (List ℕ)) (h now g after : Held) (before out other : List ℕ) → h.out ≡ Some before → g.out ≡ Some before → now.out ≡ Some out → after.out ≡ Some other
+        → AreBytes out → AreBytes other → IsDone ws bytes left h now → IsDone ws bytes again g after → out ≡ other }
+    ensures report { (ws : List Text) (bytes : List ℕ) (left again : Option (List ℕ)) (h now g after : Held) (before : List ℕ) → h.said ≡ Some before → g.said ≡ Some before
+        → IsDone ws bytes left h now → IsDone ws bytes again g after → now.said ≡ after.said }
+    ensures size { (ws : List Text) (bytes : List ℕ) (left : Option (List ℕ)) (h now : Held) (before out : List ℕ) (p : IsDone ws bytes left h now) → h.out ≡ Some before → now.out ≡ Some out
+        → length out ≡ length before + stream_size p.rate (sound_of p.head bytes) (frames_of (sound_of p.head bytes)) }
 {}

@@ -4,7 +4,7 @@ ghost use Rattle.ac_io.specs.Outside.{Rose};
 ghost use Rattle.ac_words.specs.Grammar.{InGrammar};
 ghost use Rattle.ac_app.specs.Input.{limit, IsInput, Refuses, IsTooLong};
 ghost use Rattle.ac_app.specs.Lines.{status_line};
-ghost use Rattle.ac_app.specs.World.{Held, Holds};
+ghost use Rattle.ac_app.specs.World.{held};
 ghost use Rattle.ac_app.specs.Run.{rate_asked, counts, JobTakes, JobGives, Tail, answer_of, RunGives, IsDone};
 ghost use Rattle.ac_wav.specs.Pieces.{TakesAtMost};
 ghost use Rattle.ac_wav.specs.declared.fault.WavKind.{WavKind};
@@ -36,8 +36,8 @@ fn job<S: Source, O: Sink, N: Sink>(
     report: &mut N,
 ) -> Status
     ensures takes { (bytes : List ℕ) → S.left input.old ≡ Some bytes → JobTakes (map string_bytes words.now) result bytes (S.left input.new) }
-    ensures gives { (bytes : List ℕ) (h : Held) → S.left input.old ≡ Some bytes → Holds h (O.held output.old) (N.held report.old)
-        → JobGives (map string_bytes words.now) result bytes (counts (O.faults output.old) (N.faults report.old)) (counts (O.faults output.new) (N.faults report.new)) h (O.held output.new) (N.held report.new) }
+    ensures gives { (bytes : List ℕ) → S.left input.old ≡ Some bytes
+        → JobGives (map string_bytes words.now) result bytes (counts (O.faults output.old) (N.faults report.old)) (counts (O.faults output.new) (N.faults report.new)) (held (O.held output.old) (N.held report.old)) (held (O.held output.new) (N.held report.new)) }
     ensures usage { result ≡ Status.Usage → InGrammar (map string_bytes words.now) → ⊥ }
     ensures untouched { result ≡ Status.Usage → input.new ≡ input.old }
     ensures unwritten { result ≢ Status.Ok → result ≢ Status.WriteFault → (output.new ≡ output.old) × (report.new ≡ report.old) }
@@ -58,7 +58,7 @@ fn job<S: Source, O: Sink, N: Sink>(
 
 /// Adds the status line, and answers whether it was taken whole.
 fn tell<N: Sink>(status: Status, report: &mut N) -> bool
-    ensures line { (before : List ℕ) → N.held report.old ≡ Some before → Tail result (N.held report.new) before (status_line status) }
+    ensures line { Tail result (N.held report.old) (N.held report.new) (status_line status) }
     ensures failed { result ≡ false → Rose (N.faults report.old) (N.faults report.new) }
     ensures report_count { N.faults report.old ≤ N.faults report.new }
 {
@@ -78,9 +78,9 @@ fn answer(status: Status, whole: bool) -> Status
 /// Does all that the program does: reads the command in `words`, which are the arguments behind the program's
 /// own name, does it over the input, the output and the report, and ends the report with the status line.
 ///
-/// Where the source tells its bytes, each answer's cause stands in them, and where both sinks tell theirs too,
-/// so does what was written. `ReadFault` and `WriteFault` come only where a count of faults rose, and `NoMemory`
-/// is the one answer without a cause.
+/// Where the source tells its bytes, each answer's cause stands in them, and so does what was written to each sink
+/// that tells its own, whatever the other tells. `ReadFault` and `WriteFault` come only where a count of faults rose,
+/// and `NoMemory` is the one answer without a cause.
 pub fn run<S: Source, O: Sink, N: Sink>(
     alloc: Global,
     words: &[String],
@@ -90,11 +90,11 @@ pub fn run<S: Source, O: Sink, N: Sink>(
 ) -> Status
     // Ok: the output gained the frames of the data, the report their lines and the status line, and the
     // source lost the bytes up to the end of its data.
-    ensures ok { (bytes : List ℕ) (h : Held) → S.left input.old ≡ Some bytes → Holds h (O.held output.old) (N.held report.old) → result ≡ Status.Ok
-        → IsDone (map string_bytes words.now) bytes h (S.left input.new) (O.held output.new) (N.held report.new) }
+    ensures ok { (bytes : List ℕ) → S.left input.old ≡ Some bytes → result ≡ Status.Ok
+        → IsDone (map string_bytes words.now) bytes (S.left input.new) (held (O.held output.old) (N.held report.old)) (held (O.held output.new) (N.held report.new)) }
     // What every answer leaves in the output and the report.
-    ensures gives { (bytes : List ℕ) (h : Held) → S.left input.old ≡ Some bytes → Holds h (O.held output.old) (N.held report.old)
-        → RunGives (map string_bytes words.now) result bytes (counts (O.faults output.old) (N.faults report.old)) (counts (O.faults output.new) (N.faults report.new)) h (O.held output.new) (N.held report.new) }
+    ensures gives { (bytes : List ℕ) → S.left input.old ≡ Some bytes
+        → RunGives (map string_bytes words.now) result bytes (counts (O.faults output.old) (N.faults report.old)) (counts (O.faults output.new) (N.faults report.new)) (held (O.held output.old) (N.held report.old)) (held (O.held output.new) (N.held report.new)) }
     // Each answer's cause, and what it takes of the input.
     ensures takes { (bytes : List ℕ) → S.left input.old ≡ Some bytes → JobTakes (map string_bytes words.now) result bytes (S.left input.new) }
     // At most one byte past the limit is taken of the input, whatever the answer.

@@ -11,9 +11,9 @@ returns-in-Ok-clause-takes g c = λ bytes left.
     takes_stream c.write_frames.result bytes c.in-Ok.gathered _ c.write_frames.ensures.ends (c.in-Ok.ensures.told bytes left)
 
 pub returns-in-Ok-clause-gives : goal.returns-in-Ok-clause-gives
-returns-in-Ok-clause-gives g c = λ bytes h left holds.
+returns-in-Ok-clause-gives g c = λ bytes left.
     let read = c.in-Ok.ensures.told bytes left in
-    gives_stream c.args.rate c.write_frames.result bytes c.in-Ok.gathered _ _ h _ _ _ read (c.write_frames.ensures.leaves (sound_of read.head bytes) h (sym read.fscod) read.all.are holds)
+    gives_stream c.args.rate c.write_frames.result bytes c.in-Ok.gathered _ _ _ _ _ read (c.write_frames.ensures.leaves (sound_of read.head bytes) (sym read.fscod) read.all.are)
 
 pub returns-in-Err-Wav-Bad-clause-takes : goal.returns-in-Err-Wav-Bad-clause-takes
 returns-in-Err-Wav-Bad-clause-takes g c = λ bytes left.

@@ -9,5 +9,5 @@ returns-in-Ok-clause-takes g c = λ bytes left.
     job_takes _ c.encode.result bytes _ (in_grammar _ c.in-Ok.asked c.in-Ok.ensures.ok) (c.encode.ensures.takes bytes left)
 
 pub returns-in-Ok-clause-gives : goal.returns-in-Ok-clause-gives
-returns-in-Ok-clause-gives g c = λ bytes h left holds.
-    job_gives _ c.rate_of.result c.encode.result bytes _ _ h _ _ (asks _ c.in-Ok.asked c.rate_of.result c.rate_of.ensures c.in-Ok.ensures.ok) (c.encode.ensures.gives bytes h left holds)
+returns-in-Ok-clause-gives g c = λ bytes left.
+    job_gives _ c.rate_of.result c.encode.result bytes _ _ _ _ (asks _ c.in-Ok.asked c.rate_of.result c.rate_of.ensures c.in-Ok.ensures.ok) (c.encode.ensures.gives bytes left)

@@ -1,0 +1,75 @@
+-- What the program does, by how it ends.
+use Rattle.std.specs.Prelude.{◌≡◌, ◌⊎◌, ℕ, List, [], ◌∷◌, ◌++◌, Option, Some}
+use Rattle.ac_io.specs.Outside.{Rose}
+use Rattle.ac_words.specs.Grammar.{Text, LastWords, InGrammar}
+use Rattle.ac_words.specs.Asked.{GivesNames}
+use Rattle.ac_words.specs.declared.fault.WordsFault.{WordsFault}
+use Rattle.ac_words.specs.declared.fault.WordsFault.TheVariants as faults
+use Rattle.ac_app.specs.Lines.{code_of, status_line}
+use Rattle.ac_app.specs.Run.{Counts, counts, JobTakes, RunGives, IsDone}
+use Rattle.ac_app.specs.World.{Held, held}
+use Rattle.ac_app.specs.declared.status.Status.{Status}
+use Rattle.ac_app.specs.declared.status.Status.TheVariants.{Ok, ReadFault, WriteFault}
+use Rattle.ac3.specs.Codes.{open_fault, open_fault_line, status_of_words}
+use Rattle.ac3.specs.Deeds.{Deed, said, Did, told, told_report, Tellings, tellings, all_given, Stopped}
+use Rattle.ac3.specs.declared.perform.Things.{Things}
+use Rattle.ac3.specs.declared.perform.Ended.{Ended}
+use Rattle.ac3.specs.declared.perform.Ended.TheVariants.{Ran, OpenFault, NoWords}
+
+-- the exit code of an end
+abbrev pub code_of_end : {S O N : Type 0} → Ended S O N → ℕ
+code_of_end (Ran status _) = code_of status
+code_of_end OpenFault = open_fault
+code_of_end (NoWords fault) = code_of (status_of_words fault)
+
+-- what the three things tell, each by what its trait tells of it
+abbrev pub tellings_of : {S O N : Type 0} → (S → Option (List ℕ)) → (S → ℕ) → (O → Option (List ℕ)) → (O → ℕ)
+    → (N → Option (List ℕ)) → (N → ℕ) → Things S O N → Tellings
+tellings_of left input_faults taken output_faults noted report_faults t =
+    tellings (told (left t.input) (input_faults t.input)) (told (taken t.output) (output_faults t.output)) (told_report noted report_faults t.report)
+
+-- P where a run ended with this status and left these things
+abbrev pub IfRan : {S O N : Type 0} → Ended S O N → (Status → Things S O N → Type 0) → Type 0
+IfRan (Ran status things) P = P status things
+IfRan OpenFault P = Unit {0}
+IfRan (NoWords _) P = Unit {0}
+
+abbrev pub IfOpenFault : {S O N : Type 0} → Ended S O N → Type 0 → Type 0
+IfOpenFault (Ran _ _) P = Unit {0}
+IfOpenFault OpenFault P = P
+IfOpenFault (NoWords _) P = Unit {0}
+
+abbrev pub IfNoWords : {S O N : Type 0} → Ended S O N → (WordsFault → Type 0) → Type 0
+IfNoWords (Ran _ _) P = Unit {0}
+IfNoWords OpenFault P = Unit {0}
+IfNoWords (NoWords fault) P = P fault
+
+-- what the output and the report have taken
+abbrev pub written : Tellings → Held
+written t = held t.output.bytes t.report.bytes
+
+-- how many of their calls failed
+abbrev pub failures : Tellings → Counts
+failures t = counts t.output.faults t.report.faults
+
+-- the words were run, with this answer, on things that told the first tellings before and tell the second now
+pub record Leaves (ws : List Text) (status : Status) (old new : Tellings) : Type 0 where
+  pub ok : (bytes : List ℕ) → old.input.bytes ≡ Some bytes → status ≡ Ok → IsDone ws bytes new.input.bytes (written old) (written new)
+  pub gives : (bytes : List ℕ) → old.input.bytes ≡ Some bytes → RunGives ws status bytes (failures old) (failures new) (written old) (written new)
+  pub takes : (bytes : List ℕ) → old.input.bytes ≡ Some bytes → JobTakes ws status bytes new.input.bytes
+  pub read : status ≡ ReadFault → Rose old.input.faults new.input.faults
+  pub write : status ≡ WriteFault → Rose old.output.faults new.output.faults ⊎ Rose old.report.faults new.report.faults
+
+-- the words name three things, which were asked for and given in order, and the words were run on them
+abbrev pub RunsOn : List Text → Status → Option (List Deed) → Option (List Deed) → Tellings → Type 0
+RunsOn ws status old new now =
+    (n : LastWords) × GivesNames ws n × ((before : Tellings) × Did old new (all_given n before) × Leaves ws status before now)
+
+-- the words name three things, of which one was refused, and status 8 was said
+abbrev pub StopsAt : List Text → Option (List Deed) → Option (List Deed) → Type 0
+StopsAt ws old new =
+    (n : LastWords) × GivesNames ws n × ((deeds : List Deed) × Stopped n deeds × Did old new (deeds ++ said open_fault_line ∷ []))
+
+-- nothing was asked for, and one line was said: usage, where the words are outside the grammar, or want of memory
+abbrev pub Refuses : List Text → WordsFault → Option (List Deed) → Option (List Deed) → Type 0
+Refuses ws fault old new = (fault ≡ faults.Usage → InGrammar ws → ⊥) × Did old new (said (status_line (status_of_words fault)) ∷ [])

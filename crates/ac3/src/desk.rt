@@ -1,0 +1,60 @@
+ghost use Rattle.std.specs.Prelude.{[], ◌∷◌, List, Option};
+ghost use Rattle.ac3.specs.Deeds.{Deed, Did, asked, given, said, told, standard_input, file_to_read, standard_output, output_file, report_file};
+
+use ac_app::{Failed, Sink, Source};
+
+/// Where the program asks for what it reads and writes, and prints its own lines.
+pub trait Desk {
+    /// What is read.
+    type Input: Source + Drop;
+
+    /// What takes the output.
+    type Output: Sink + Drop;
+
+    /// What takes the report.
+    type Report: Sink + Drop;
+
+    /// What was asked for and printed so far, where it is told. A desk may cease to tell.
+    ghost done: { Self → Option (List Deed) };
+
+    /// Standard input.
+    fn standard_input(&mut self) -> Self::Input
+        ensures { Did (done self.old) (done self.new)
+            (given standard_input (told (Self.Input.left result) (Self.Input.faults result)) ∷ []) };
+
+    /// Opens a file that is there.
+    ///
+    /// # Errors
+    ///
+    /// `Failed` where it couldn't be opened.
+    fn open(&mut self, name: &str) -> Result<Self::Input, Failed>
+        ensures { Did (done self.old) (done self.new)
+            (asked (file_to_read name.now) Self.Input.left Self.Input.faults result ∷ []) };
+
+    /// Standard output.
+    fn standard_output(&mut self) -> Self::Output
+        ensures { Did (done self.old) (done self.new)
+            (given standard_output (told (Self.Output.held result) (Self.Output.faults result)) ∷ []) };
+
+    /// Creates the output's file, or empties it.
+    ///
+    /// # Errors
+    ///
+    /// `Failed` where it couldn't be created.
+    fn create_output(&mut self, name: &str) -> Result<Self::Output, Failed>
+        ensures { Did (done self.old) (done self.new)
+            (asked (output_file name.now) Self.Output.held Self.Output.faults result ∷ []) };
+
+    /// Creates the report's file, or empties it.
+    ///
+    /// # Errors
+    ///
+    /// `Failed` where it couldn't be created.
+    fn create_report(&mut self, name: &str) -> Result<Self::Report, Failed>
+        ensures { Did (done self.old) (done self.new)
+            (asked (report_file name.now) Self.Report.held Self.Report.faults result ∷ []) };
+
+    /// Prints a text on standard output.
+    fn say(&mut self, text: &str)
+        ensures { Did (done self.old) (done self.new) (said text.now ∷ []) };
+}

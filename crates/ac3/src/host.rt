@@ -1,0 +1,64 @@
+//! The desk of the system: the one place where a file is opened by its name.
+ghost use Rattle.std.specs.Prelude.{None};
+
+use crate::desk::Desk;
+use ac_app::{Failed, StdSink, StdSource};
+use either::{Either, Left, Right};
+use std::fs::File;
+use std::rt::{HostRuntime, Stdin, Stdout};
+
+/// The files and the standard streams of the system. It tells nothing of what was done.
+#[derive(Drop)]
+pub struct HostDesk<'a> {
+    rt: &'a HostRuntime,
+}
+
+impl HostDesk<'_> {
+    /// The desk of this system.
+    pub fn new(rt: &HostRuntime) -> HostDesk<'_> {
+        HostDesk { rt }
+    }
+}
+
+impl Desk for HostDesk<'_> {
+    type Input = StdSource<Either<Stdin, File>>;
+
+    type Output = StdSink<Either<Stdout, File>>;
+
+    type Report = StdSink<File>;
+
+    ghost done = { λ _. None };
+
+    fn standard_input(&mut self) -> Self::Input {
+        StdSource::new(Left(self.rt.stdin()))
+    }
+
+    fn open(&mut self, name: &str) -> Result<Self::Input, Failed> {
+        match File::open(self.rt, name) {
+            Ok(file) => Ok(StdSource::new(Right(file))),
+            Err(_) => Err(Failed),
+        }
+    }
+
+    fn standard_output(&mut self) -> Self::Output {
+        StdSink::new(Left(self.rt.stdout()))
+    }
+
+    fn create_output(&mut self, name: &str) -> Result<Self::Output, Failed> {
+        match File::create(self.rt, name) {
+            Ok(file) => Ok(StdSink::new(Right(file))),
+            Err(_) => Err(Failed),
+        }
+    }
+
+    fn create_report(&mut self, name: &str) -> Result<Self::Report, Failed> {
+        match File::create(self.rt, name) {
+            Ok(file) => Ok(StdSink::new(file)),
+            Err(_) => Err(Failed),
+        }
+    }
+
+    fn say(&mut self, text: &str) {
+        let _ = print!(self.rt; "{text}");
+    }
+}
