@@ -54,14 +54,15 @@ fn is_starved(left: &Left) -> bool {
     left.status == Status::NoMemory || left.output.starved() > 0 || left.report.starved() > 0
 }
 
-/// Whether a run that wanted memory left what it may: nothing but the status line, or a front of the plain output.
+/// Whether a run that wanted memory left what it may: nothing but the status line, or, where a sink wanted it, a front of
+/// the plain output, and another answer than Ok.
 fn may_leave(left: &Left, plain: &Left) -> bool {
     if left.status == Status::NoMemory {
         let is_told = !plain.report.bytes().is_empty();
         let line = if is_told { "status 9 no memory\n" } else { "" };
         return refuses(left, Status::NoMemory, line);
     }
-    plain.output.bytes().starts_with(left.output.bytes())
+    left.status != Status::Ok && plain.output.bytes().starts_with(left.output.bytes())
 }
 
 /// The objects' calls that fail, by their numbers.
@@ -354,8 +355,9 @@ fn stereo_not_yet(rt: HostRuntime) -> Result<(), Fail> {
 // Each length below a whole head ends inside it, or where a chunk could begin.
 #[test]
 fn every_cut_head(rt: HostRuntime) -> Result<(), Fail> {
+    let words = again!(rt; words_of(rt.alloc(), "192"));
     for cut in 0..44usize {
-        let left = encoded(rt, &EMPTY[..cut])?;
+        let left = left_by(rt, &words, &EMPTY[..cut], NONE)?;
         let kind = if cut == 12 || cut == 36 {
             WavKind::NoData
         } else {
@@ -367,73 +369,71 @@ fn every_cut_head(rt: HostRuntime) -> Result<(), Fail> {
     Ok(())
 }
 
+/// A byte written over one of the head: where and which, the kind and the place of the refusal, and its line.
+const REFUSED: [(usize, u8, WavKind, u64, &str); 11] = [
+    (0, 0x72, WavKind::NotRiff, 0, "status 2 bad wav notriff 0\n"),
+    (8, 0x77, WavKind::NotRiff, 8, "status 2 bad wav notriff 8\n"),
+    (12, 0x46, WavKind::NoFmt, 36, "status 2 bad wav nofmt 36\n"),
+    (
+        36,
+        0x44,
+        WavKind::NoData,
+        44,
+        "status 2 bad wav nodata 44\n",
+    ),
+    (
+        16,
+        14,
+        WavKind::BadFmt(Field::Size),
+        16,
+        "status 2 bad wav badfmt 16\n",
+    ),
+    (
+        20,
+        3,
+        WavKind::Unsupported(Field::Tag, 3),
+        20,
+        "status 2 bad wav unsupported 20\n",
+    ),
+    (
+        22,
+        7,
+        WavKind::Unsupported(Field::Channels, 7),
+        22,
+        "status 2 bad wav unsupported 22\n",
+    ),
+    (
+        25,
+        0,
+        WavKind::Unsupported(Field::Rate, 128),
+        24,
+        "status 2 bad wav unsupported 24\n",
+    ),
+    (
+        34,
+        8,
+        WavKind::Unsupported(Field::Bits, 8),
+        34,
+        "status 2 bad wav unsupported 34\n",
+    ),
+    (
+        32,
+        4,
+        WavKind::BadFmt(Field::Align),
+        32,
+        "status 2 bad wav badfmt 32\n",
+    ),
+    (40, 2, WavKind::Short, 44, "status 2 bad wav short 44\n"),
+];
+
 // The kind and the place of the first rule that fails, and their line.
 #[test]
 fn refused_heads(rt: HostRuntime) -> Result<(), Fail> {
-    for (at, byte, kind, place, line) in [
-        (
-            0usize,
-            0x72u8,
-            WavKind::NotRiff,
-            0u64,
-            "status 2 bad wav notriff 0\n",
-        ),
-        (8, 0x77, WavKind::NotRiff, 8, "status 2 bad wav notriff 8\n"),
-        (12, 0x46, WavKind::NoFmt, 36, "status 2 bad wav nofmt 36\n"),
-        (
-            36,
-            0x44,
-            WavKind::NoData,
-            44,
-            "status 2 bad wav nodata 44\n",
-        ),
-        (
-            16,
-            14,
-            WavKind::BadFmt(Field::Size),
-            16,
-            "status 2 bad wav badfmt 16\n",
-        ),
-        (
-            20,
-            3,
-            WavKind::Unsupported(Field::Tag, 3),
-            20,
-            "status 2 bad wav unsupported 20\n",
-        ),
-        (
-            22,
-            7,
-            WavKind::Unsupported(Field::Channels, 7),
-            22,
-            "status 2 bad wav unsupported 22\n",
-        ),
-        (
-            25,
-            0,
-            WavKind::Unsupported(Field::Rate, 128),
-            24,
-            "status 2 bad wav unsupported 24\n",
-        ),
-        (
-            34,
-            8,
-            WavKind::Unsupported(Field::Bits, 8),
-            34,
-            "status 2 bad wav unsupported 34\n",
-        ),
-        (
-            32,
-            4,
-            WavKind::BadFmt(Field::Align),
-            32,
-            "status 2 bad wav badfmt 32\n",
-        ),
-        (40, 2, WavKind::Short, 44, "status 2 bad wav short 44\n"),
-    ] {
+    let words = again!(rt; words_of(rt.alloc(), "192"));
+    for (at, byte, kind, place, line) in REFUSED {
         let mut head = EMPTY;
         write(&mut head, at, &[byte]);
-        let left = encoded(rt, &head)?;
+        let left = left_by(rt, &words, &head, NONE)?;
         assert!(rt;
             refuses(&left, Status::BadWav(kind, place), line),
             "at {at}"
@@ -657,47 +657,73 @@ const UNREAD: Stopped = Stopped {
     end: "status 6 read fault\n",
 };
 
-// Over three frames of a sound each read of the input, each write of the output and each write of the report fails in turn,
-// up to the first that no run makes.
-#[test]
-fn each_call_fails_in_turn(rt: HostRuntime) -> Result<(), Fail> {
+/// A sound of three frames, and what a plain run over it left.
+#[derive(Drop)]
+struct Plain {
+    words: Vec<String>,
+    bytes: Vec<u8>,
+    left: Left,
+}
+
+fn plain_run(rt: HostRuntime) -> Result<Plain, Fail> {
     let words = again!(rt; words_of(rt.alloc(), "192"));
     let bytes = again!(rt; plain_sound(rt.alloc()));
-    let plain = left_by(rt, &words, &bytes, NONE)?;
-    assert!(rt; stops_so(&plain, &plain, DONE));
-    assert_eq!(rt; plain.output.bytes().len(), 3 * 768);
+    let left = left_by(rt, &words, &bytes, NONE)?;
+    Ok(Plain { words, bytes, left })
+}
+
+// Over three frames each read of the input fails in turn, up to the first that no run makes.
+#[test]
+fn each_read_fails_in_turn(rt: HostRuntime) -> Result<(), Fail> {
+    let plain = plain_run(rt)?;
+    assert!(rt; stops_so(&plain.left, &plain.left, DONE));
+    assert_eq!(rt; plain.left.output.bytes().len(), 3 * 768);
     let mut reads = 0u64;
     for call in 0..20u64 {
         let failing = Failing {
             input: &[call],
             ..NONE
         };
-        let left = left_by(rt, &words, &bytes, failing)?;
+        let left = left_by(rt, &plain.words, &plain.bytes, failing)?;
         if left.status == Status::Ok {
             break;
         }
-        assert!(rt; stops_so(&left, &plain, UNREAD), "read {call}");
+        assert!(rt; stops_so(&left, &plain.left, UNREAD), "read {call}");
         reads = call;
     }
     // The head is read in several pieces, and the data in as many as there are frames or more.
     assert!(rt; reads > 3 && reads < 19, "{reads}");
+    Ok(())
+}
+
+// So does each write of the output.
+#[test]
+fn each_write_fails_in_turn(rt: HostRuntime) -> Result<(), Fail> {
+    let plain = plain_run(rt)?;
     for call in 0..4usize {
         let failing = Failing {
             output: &[call as u64],
             ..NONE
         };
-        let left = left_by(rt, &words, &bytes, failing)?;
+        let left = left_by(rt, &plain.words, &plain.bytes, failing)?;
         let wanted = if call < 3 { at_output(call) } else { DONE };
-        assert!(rt; stops_so(&left, &plain, wanted), "write {call}");
+        assert!(rt; stops_so(&left, &plain.left, wanted), "write {call}");
     }
+    Ok(())
+}
+
+// So does each line of the report.
+#[test]
+fn each_line_fails_in_turn(rt: HostRuntime) -> Result<(), Fail> {
+    let plain = plain_run(rt)?;
     for call in 0..5usize {
         let failing = Failing {
             report: &[call as u64],
             ..NONE
         };
-        let left = left_by(rt, &words, &bytes, failing)?;
+        let left = left_by(rt, &plain.words, &plain.bytes, failing)?;
         let wanted = if call < 4 { at_report(call) } else { DONE };
-        assert!(rt; stops_so(&left, &plain, wanted), "line {call}");
+        assert!(rt; stops_so(&left, &plain.left, wanted), "line {call}");
     }
     Ok(())
 }
