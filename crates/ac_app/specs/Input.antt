@@ -1,4 +1,5 @@
--- Which inputs are encoded, and why others are refused. At most 2^26 bytes are read.
+-- Which inputs are encoded, and why others are refused: all of it this project's own, but for what acmod and lfeon say.
+-- At most 2^26 bytes are read.
 use Rattle.std.specs.Prelude.{◌≡◌, ◌⊎◌, ℕ, ◌^◌, ◌≤◌, false, List, Option, Some, ℤ}
 use Rattle.ac_wav.specs.declared.fault.WavKind.{WavKind}
 use Rattle.ac_wav.specs.declared.fault.WavKind.TheVariants.{NotYet}
@@ -15,7 +16,7 @@ use Rattle.ac_app.specs.Sound.{AreSamples, sound_of}
 abbrev pub limit : ℕ
 limit = 2 ^ 26
 
--- one channel, without LFE: the layout that is encoded so far
+-- one channel, without LFE (A/52 5.4.2.3 and 5.4.2.7): the layout that is encoded so far
 pub record IsMono (head : WavHead) : Type 0 where
   pub one : head.acmod ≡ 1
   pub no_lfe : head.lfe ≡ false

@@ -1,11 +1,11 @@
--- The report: a line for each frame, and the status line. Each line ends with a line feed.
+-- The report, this project's own: a line for each frame, and the status line. Each line ends with a line feed.
 use Rattle.std.specs.Prelude.{ℕ, List, ◌++◌, codes, decimal}
 use Rattle.ac_wav.specs.declared.fault.WavKind.{WavKind}
 use Rattle.ac_wav.specs.declared.fault.WavKind.TheVariants as kinds
 use Rattle.ac_app.specs.declared.status.Status.{Status}
 use Rattle.ac_app.specs.declared.status.Status.TheVariants as statuses
 
--- `frame I size Z base`: the frame's number, and its size in bytes
+-- `frame I size Z base`: the frame's number, and its size in bytes; base is the plan of offset 0
 abbrev pub frame_line : ℕ → ℕ → List ℕ
 frame_line i size = codes "frame " ++ decimal i ++ codes " size " ++ decimal size ++ codes " base\n"
 
@@ -19,6 +19,7 @@ kind_word (kinds.BadFmt field) = codes "badfmt "
 kind_word (kinds.Unsupported field value) = codes "unsupported "
 kind_word kinds.NotYet = codes "notyet "
 
+-- the last line: the code of the status, and why
 abbrev pub status_line : Status → List ℕ
 status_line statuses.Ok = codes "status 0 ok\n"
 status_line statuses.Usage = codes "status 1 usage\n"
@@ -28,6 +29,7 @@ status_line statuses.WriteFault = codes "status 7 write fault\n"
 status_line statuses.NoMemory = codes "status 9 no memory\n"
 status_line (statuses.TooLong limit) = codes "status 11 too long " ++ decimal limit ++ codes "\n"
 
+-- the exit code; 8 is that of an open fault, which is no status of a run
 abbrev pub code_of : Status → ℕ
 code_of statuses.Ok = 0
 code_of statuses.Usage = 1

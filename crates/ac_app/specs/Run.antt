@@ -1,4 +1,4 @@
--- What a run leaves, by its answer.
+-- What a run leaves, by its answer: this project's own rules.
 use Rattle.std.specs.Prelude.{◌≡◌, ℕ, Bool, true, false, List, ◌++◌, Option, Some, Err}
 use Rattle.ac_io.specs.Outside.{Rose, Adds, AddsFront}
 use Rattle.ac_words.specs.Grammar.{Text, LastWords, Means, encode, InGrammar}

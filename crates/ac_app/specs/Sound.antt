@@ -18,11 +18,12 @@ pub record AreSamples (s : Sound) (samples : List ℤ) : Type 0 where
   pub count : length samples ≡ s.count
   pub each : (j : ℕ) → slice_index_or samples j (pos 0) ≡ s.sample j
 
--- place p of the sound that is transformed: 256 zeros, and then the samples
+-- place p of the sound that is transformed: 256 zeros, this project's own choice, and then the samples
 unfoldable pub sound_at : Sound → ℕ → ℤ
 sound_at s p = if nat_lt p 256 then pos 0 else s.sample (p - 256)
 
--- the number of frames for n samples: each has 1,536 places, and the last sample stands in two transforms
+-- the number of frames for n samples, this project's own choice: each has the 1,536 places of six blocks (A/52 5.3), and
+-- the last sample stands in two transforms
 abbrev pub frame_count : ℕ → ℕ
 frame_count n = if n == 0 then 0 else (n + 256 + 1535) / 1536
 

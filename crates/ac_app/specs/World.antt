@@ -1,4 +1,5 @@
--- What is known of the output and the report, each for itself, and what the frames of a sound leave in them.
+-- What is known of the output and the report, each for itself, and what the frames of a sound leave in them: this
+-- project's own rules, over the sync frames of A/52 5.3.
 use Rattle.std.specs.Prelude.{◌≡◌, ℕ, ◌<◌, List, Option, Result, Ok, Err, ℤ}
 use Rattle.ac_base.specs.Sigma.{Lists}
 use Rattle.ac_enc.specs.Frame.{IsFrame}
@@ -25,7 +26,7 @@ Emits frame line (Ok _) h now = Adds h.out now.out frame × Adds h.said now.said
 Emits frame line (Err stops.Output) h now = AddsFront h.out now.out frame × (now.said ≡ h.said)
 Emits frame line (Err stops.Report) h now = Adds h.out now.out frame × AddsFront h.said now.said line
 
--- what frame i leaves: its sync frame (A/52 5.3) and its line were written, or fronts of them
+-- what frame i leaves: its sync frame and its line were written, or fronts of them
 pub record FrameLeaves (rate : ℕ) (s : Sound) (i : ℕ) (result : Result (Unit {0}) Stop) (h now : Held) : Type 0 where
   pub frame : List ℕ
   pub is_frame : IsFrame rate s.fscod i (places s i) frame

@@ -1,5 +1,7 @@
 //! The worked examples of the top call, over a source and sinks in memory.
-use crate::{Field, MemSink, MemSource, Status, WavKind, input_law, run, run_law, stream_law};
+use crate::{
+    Field, MemSink, MemSource, NullSink, Status, WavKind, input_law, run, run_law, stream_law,
+};
 use std::alloc::{AllocError, Global};
 use std::test::Fail;
 
@@ -11,12 +13,56 @@ const EMPTY: [u8; 44] =
 const WIDE: &[u8] =
     b"RIFF\xff\xff\xff\xffWAVEfmt \x28\0\0\0\xfe\xff\x01\0\x80\xbb\0\0\x80\x32\x02\0\x03\0\x18\0\x16\0\x18\0\x04\0\0\0\x01\0\0\0\0\0\x10\0\x80\0\0\xaa\0\x38\x9b\x71data\xff\xff\xff\xff";
 
+/// What takes memory, made again where memory was wanting.
+macro_rules! again {
+    ($rt:expr; $made:expr) => {
+        match $made {
+            Ok(made) => made,
+            Err(AllocError) => {
+                println!($rt; "made again")?;
+                $made?
+            }
+        }
+    };
+}
+
+/// What a run left, made again where memory was wanting in it or in a sink. One that left what it may not is handed
+/// back as it is, for the test to refuse.
+macro_rules! left {
+    ($rt:expr; $made:expr) => {{
+        let first = again!($rt; $made);
+        if is_starved(&first) {
+            println!($rt; "made again")?;
+            let plain = $made?;
+            if may_leave(&first, &plain) { plain } else { first }
+        } else {
+            first
+        }
+    }};
+}
+
 /// What a run left.
 #[derive(Drop)]
 struct Left {
     status: Status,
-    output: Vec<u8>,
-    report: Vec<u8>,
+    output: MemSink,
+    report: MemSink,
+}
+
+/// Whether memory was wanting in a run, or in one of its sinks.
+fn is_starved(left: &Left) -> bool {
+    left.status == Status::NoMemory || left.output.starved() > 0 || left.report.starved() > 0
+}
+
+/// Whether a run that wanted memory left what it may: nothing but the status line, or, where a sink wanted it, a front of
+/// the plain output, and another answer than Ok.
+fn may_leave(left: &Left, plain: &Left) -> bool {
+    if left.status == Status::NoMemory {
+        let is_told = !plain.report.bytes().is_empty();
+        let line = if is_told { "status 9 no memory\n" } else { "" };
+        return refuses(left, Status::NoMemory, line);
+    }
+    left.status != Status::Ok && plain.output.bytes().starts_with(left.output.bytes())
 }
 
 /// The objects' calls that fail, by their numbers.
@@ -34,35 +80,53 @@ const NONE: Failing<'static> = Failing {
 };
 
 fn words_of(alloc: Global, rate: &str) -> Result<Vec<String>, AllocError> {
-    let mut words = Vec::new(alloc);
+    let mut words = Vec::with_capacity(alloc, 6)?;
     for word in ["encode", "--rate", rate, "-", "-", "-"] {
         words.push(String::from_str(alloc, word)?)?;
     }
     Ok(words)
 }
 
-fn left_by(
+fn source(alloc: Global, bytes: &[u8], failing: &[u64]) -> Result<MemSource, AllocError> {
+    Ok(MemSource::new(
+        Vec::from_slice(alloc, bytes)?,
+        Vec::from_slice(alloc, failing)?,
+    ))
+}
+
+fn sink(alloc: Global, failing: &[u64]) -> Result<MemSink, AllocError> {
+    Ok(MemSink::new(Vec::new(alloc), Vec::from_slice(alloc, failing)?))
+}
+
+fn once(
     alloc: Global,
     words: &[String],
     bytes: &[u8],
     failing: Failing<'_>,
 ) -> Result<Left, AllocError> {
-    let mut input = MemSource::new(
-        Vec::from_slice(alloc, bytes)?,
-        Vec::from_slice(alloc, failing.input)?,
-    );
-    let mut output = MemSink::new(Vec::new(alloc), Vec::from_slice(alloc, failing.output)?);
-    let mut report = MemSink::new(Vec::new(alloc), Vec::from_slice(alloc, failing.report)?);
+    let mut input = source(alloc, bytes, failing.input)?;
+    let mut output = sink(alloc, failing.output)?;
+    let mut report = sink(alloc, failing.report)?;
     let status = run(alloc, words, &mut input, &mut output, &mut report);
     Ok(Left {
         status,
-        output: Vec::from_slice(alloc, output.bytes())?,
-        report: Vec::from_slice(alloc, report.bytes())?,
+        output,
+        report,
     })
 }
 
-fn encoded(alloc: Global, bytes: &[u8]) -> Result<Left, AllocError> {
-    left_by(alloc, &words_of(alloc, "192")?, bytes, NONE)
+fn left_by(
+    rt: HostRuntime,
+    words: &[String],
+    bytes: &[u8],
+    failing: Failing<'_>,
+) -> Result<Left, Fail> {
+    Ok(left!(rt; once(rt.alloc(), words, bytes, failing)))
+}
+
+fn encoded(rt: HostRuntime, bytes: &[u8]) -> Result<Left, Fail> {
+    let words = again!(rt; words_of(rt.alloc(), "192"));
+    left_by(rt, &words, bytes, NONE)
 }
 
 /// Writes bytes over those from `at` on.
@@ -75,6 +139,10 @@ fn write(bytes: &mut [u8], at: usize, new: &[u8]) {
     }
 }
 
+fn front(bytes: &[u8], count: usize) -> &[u8] {
+    &bytes[..count.min(bytes.len())]
+}
+
 /// The head with this size of the data.
 fn head_of(size: u32) -> [u8; 44] {
     let mut head = EMPTY;
@@ -84,10 +152,9 @@ fn head_of(size: u32) -> [u8; 44] {
 
 /// A head and this many bytes of 0 behind it.
 fn with_zeros(alloc: Global, head: &[u8; 44], count: u32) -> Result<Vec<u8>, AllocError> {
-    let mut bytes = Vec::from_slice(alloc, head)?;
-    for _ in 0..count {
-        bytes.push(0)?;
-    }
+    let mut bytes = Vec::with_capacity(alloc, head.len() + count as usize)?;
+    bytes.extend_from_slice(head)?;
+    bytes.resize(head.len() + count as usize, 0)?;
     Ok(bytes)
 }
 
@@ -97,14 +164,19 @@ fn silence(alloc: Global, samples: u16) -> Result<Vec<u8>, AllocError> {
     with_zeros(alloc, &head_of(size), size)
 }
 
+/// Whether a run left this report.
+fn reports(left: &Left, report: &str) -> bool {
+    left.report.bytes() == report.as_bytes()
+}
+
 /// Whether a run answered this, with an empty output and this report.
 fn refuses(left: &Left, status: Status, report: &str) -> bool {
-    left.status == status && left.output.is_empty() && left.report.as_slice() == report.as_bytes()
+    left.status == status && left.output.bytes().is_empty() && reports(left, report)
 }
 
 #[test]
 fn empty_mono(rt: HostRuntime) -> Result<(), Fail> {
-    let left = encoded(rt.alloc(), &EMPTY)?;
+    let left = encoded(rt, &EMPTY)?;
     assert!(rt; refuses(&left, Status::Ok, "status 0 ok\n"));
     Ok(())
 }
@@ -112,32 +184,39 @@ fn empty_mono(rt: HostRuntime) -> Result<(), Fail> {
 #[test]
 fn frame_count(rt: HostRuntime) -> Result<(), Fail> {
     stream_law();
-    let one = encoded(rt.alloc(), &silence(rt.alloc(), 1280)?)?;
+    let one = encoded(rt, &again!(rt; silence(rt.alloc(), 1280)))?;
     assert_eq!(rt; one.status, Status::Ok);
-    assert_eq!(rt; one.output.len(), 768);
-    assert!(rt; one.report.as_slice() == "frame 0 size 768 base\nstatus 0 ok\n".as_bytes());
-    let two = encoded(rt.alloc(), &silence(rt.alloc(), 1281)?)?;
-    assert_eq!(rt; two.output.len(), 1536);
+    assert_eq!(rt; one.output.bytes().len(), 768);
+    assert!(rt; one.report.bytes() == "frame 0 size 768 base\nstatus 0 ok\n".as_bytes());
+    let two = encoded(rt, &again!(rt; silence(rt.alloc(), 1281)))?;
+    assert_eq!(rt; two.output.bytes().len(), 1536);
     assert!(rt;
-        two.report.as_slice()
+        two.report.bytes()
             == "frame 0 size 768 base\nframe 1 size 768 base\nstatus 0 ok\n".as_bytes()
     );
     Ok(())
+}
+
+/// A WAV of 2,000 samples, whose bytes are squares.
+fn squares(alloc: Global) -> Result<Vec<u8>, AllocError> {
+    let mut bytes = Vec::with_capacity(alloc, 4044)?;
+    bytes.extend_from_slice(&head_of(4000))?;
+    for place in 0..4000u32 {
+        bytes.push((place * place % 251) as u8)?;
+    }
+    Ok(bytes)
 }
 
 // Two frames of a sound: bytes 4 to 7 of each are the head's.
 #[test]
 fn mono_header_bytes(rt: HostRuntime) -> Result<(), Fail> {
     run_law();
-    let mut bytes = Vec::from_slice(rt.alloc(), &head_of(4000))?;
-    for place in 0..4000u32 {
-        bytes.push((place * place % 251) as u8)?;
-    }
-    let left = encoded(rt.alloc(), &bytes)?;
-    assert_eq!(rt; left.output.len(), 1536);
+    let bytes = again!(rt; squares(rt.alloc()));
+    let left = encoded(rt, &bytes)?;
+    assert_eq!(rt; left.output.bytes().len(), 1536);
     for frame in [0, 768] {
         assert!(rt;
-            left.output[frame + 4..frame + 8] == [0x14, 0x40, 0x2f, 0x84],
+            left.output.bytes()[frame + 4..frame + 8] == [0x14, 0x40, 0x2f, 0x84],
             "at {frame}"
         );
     }
@@ -146,43 +225,89 @@ fn mono_header_bytes(rt: HostRuntime) -> Result<(), Fail> {
 
 #[test]
 fn silence_base_frame(rt: HostRuntime) -> Result<(), Fail> {
-    let left = encoded(rt.alloc(), &silence(rt.alloc(), 1280)?)?;
-    assert_eq!(rt; left.output.len(), 768);
-    assert!(rt; left.output[4..12] == [0x14, 0x40, 0x2f, 0x84, 0x0b, 0xf3, 0xfe, 0x75]);
+    let left = encoded(rt, &again!(rt; silence(rt.alloc(), 1280)))?;
+    assert_eq!(rt; left.output.bytes().len(), 768);
+    assert!(rt; left.output.bytes()[4..12] == [0x14, 0x40, 0x2f, 0x84, 0x0b, 0xf3, 0xfe, 0x75]);
+    Ok(())
+}
+
+/// A run whose report goes nowhere.
+fn without_report(alloc: Global, words: &[String], bytes: &[u8]) -> Result<Left, AllocError> {
+    let mut input = source(alloc, bytes, &[])?;
+    let mut output = sink(alloc, &[])?;
+    let report = sink(alloc, &[])?;
+    let status = run(alloc, words, &mut input, &mut output, &mut NullSink);
+    Ok(Left {
+        status,
+        output,
+        report,
+    })
+}
+
+/// A run whose output goes nowhere.
+fn without_output(alloc: Global, words: &[String], bytes: &[u8]) -> Result<Left, AllocError> {
+    let mut input = source(alloc, bytes, &[])?;
+    let output = sink(alloc, &[])?;
+    let mut report = sink(alloc, &[])?;
+    let status = run(alloc, words, &mut input, &mut NullSink, &mut report);
+    Ok(Left {
+        status,
+        output,
+        report,
+    })
+}
+
+// What one sink gains doesn't depend on whether the other tells anything.
+#[test]
+fn each_sink_alone(rt: HostRuntime) -> Result<(), Fail> {
+    let words = again!(rt; words_of(rt.alloc(), "192"));
+    let bytes = again!(rt; squares(rt.alloc()));
+    let both = left_by(rt, &words, &bytes, NONE)?;
+    let unreported = left!(rt; without_report(rt.alloc(), &words, &bytes));
+    assert_eq!(rt; unreported.status, Status::Ok);
+    assert_eq!(rt; unreported.output.bytes().len(), 1536);
+    assert!(rt; unreported.output.bytes() == both.output.bytes());
+    let unkept = left!(rt; without_output(rt.alloc(), &words, &bytes));
+    assert_eq!(rt; unkept.status, Status::Ok);
+    assert!(rt;
+        reports(
+            &unkept,
+            "frame 0 size 768 base\nframe 1 size 768 base\nstatus 0 ok\n"
+        )
+    );
+    assert!(rt; unkept.report.bytes() == both.report.bytes());
     Ok(())
 }
 
 #[test]
 fn failing_output(rt: HostRuntime) -> Result<(), Fail> {
-    let words = words_of(rt.alloc(), "192")?;
+    let words = again!(rt; words_of(rt.alloc(), "192"));
     let failing = Failing {
         output: &[1],
         ..NONE
     };
-    let left = left_by(rt.alloc(), &words, &silence(rt.alloc(), 3000)?, failing)?;
+    let left = left_by(rt, &words, &again!(rt; silence(rt.alloc(), 3000)), failing)?;
     assert_eq!(rt; left.status, Status::WriteFault);
-    assert_eq!(rt; left.output.len(), 768);
-    assert!(rt;
-        left.report.as_slice() == "frame 0 size 768 base\nstatus 7 write fault\n".as_bytes()
-    );
+    assert_eq!(rt; left.output.bytes().len(), 768);
+    assert!(rt; left.report.bytes() == "frame 0 size 768 base\nstatus 7 write fault\n".as_bytes());
     Ok(())
 }
 
 #[test]
 fn failing_input(rt: HostRuntime) -> Result<(), Fail> {
-    let words = words_of(rt.alloc(), "192")?;
+    let words = again!(rt; words_of(rt.alloc(), "192"));
     let failing = Failing {
         input: &[0],
         ..NONE
     };
-    let left = left_by(rt.alloc(), &words, &silence(rt.alloc(), 3000)?, failing)?;
+    let left = left_by(rt, &words, &again!(rt; silence(rt.alloc(), 3000)), failing)?;
     assert!(rt; refuses(&left, Status::ReadFault, "status 6 read fault\n"));
     Ok(())
 }
 
 #[test]
 fn short_head(rt: HostRuntime) -> Result<(), Fail> {
-    let left = encoded(rt.alloc(), &EMPTY[..30])?;
+    let left = encoded(rt, &EMPTY[..30])?;
     assert!(rt;
         refuses(
             &left,
@@ -195,9 +320,9 @@ fn short_head(rt: HostRuntime) -> Result<(), Fail> {
 
 #[test]
 fn short_data(rt: HostRuntime) -> Result<(), Fail> {
-    let mut bytes = silence(rt.alloc(), 4)?;
+    let mut bytes = again!(rt; silence(rt.alloc(), 4));
     bytes.truncate(50);
-    let left = encoded(rt.alloc(), &bytes)?;
+    let left = encoded(rt, &bytes)?;
     assert!(rt;
         refuses(
             &left,
@@ -215,8 +340,11 @@ fn stereo_not_yet(rt: HostRuntime) -> Result<(), Fail> {
     let mut head = EMPTY;
     write(&mut head, 22, &[2]);
     write(&mut head, 32, &[4]);
-    for bytes in [head.as_slice(), &with_zeros(rt.alloc(), &head, 9)?] {
-        let left = encoded(rt.alloc(), bytes)?;
+    for bytes in [
+        head.as_slice(),
+        &again!(rt; with_zeros(rt.alloc(), &head, 9)),
+    ] {
+        let left = encoded(rt, bytes)?;
         assert!(rt;
             refuses(
                 &left,
@@ -231,86 +359,85 @@ fn stereo_not_yet(rt: HostRuntime) -> Result<(), Fail> {
 // Each length below a whole head ends inside it, or where a chunk could begin.
 #[test]
 fn every_cut_head(rt: HostRuntime) -> Result<(), Fail> {
+    let words = again!(rt; words_of(rt.alloc(), "192"));
     for cut in 0..44usize {
-        let left = encoded(rt.alloc(), &EMPTY[..cut])?;
+        let left = left_by(rt, &words, &EMPTY[..cut], NONE)?;
         let kind = if cut == 12 || cut == 36 {
             WavKind::NoData
         } else {
             WavKind::Short
         };
         assert_eq!(rt; left.status, Status::BadWav(kind, cut as u64));
-        assert!(rt; left.output.is_empty(), "at {cut}");
+        assert!(rt; left.output.bytes().is_empty(), "at {cut}");
     }
     Ok(())
 }
 
+/// A byte written over one of the head: where and which, the kind and the place of the refusal, and its line.
+const REFUSED: [(usize, u8, WavKind, u64, &str); 11] = [
+    (0, 0x72, WavKind::NotRiff, 0, "status 2 bad wav notriff 0\n"),
+    (8, 0x77, WavKind::NotRiff, 8, "status 2 bad wav notriff 8\n"),
+    (12, 0x46, WavKind::NoFmt, 36, "status 2 bad wav nofmt 36\n"),
+    (
+        36,
+        0x44,
+        WavKind::NoData,
+        44,
+        "status 2 bad wav nodata 44\n",
+    ),
+    (
+        16,
+        14,
+        WavKind::BadFmt(Field::Size),
+        16,
+        "status 2 bad wav badfmt 16\n",
+    ),
+    (
+        20,
+        3,
+        WavKind::Unsupported(Field::Tag, 3),
+        20,
+        "status 2 bad wav unsupported 20\n",
+    ),
+    (
+        22,
+        7,
+        WavKind::Unsupported(Field::Channels, 7),
+        22,
+        "status 2 bad wav unsupported 22\n",
+    ),
+    (
+        25,
+        0,
+        WavKind::Unsupported(Field::Rate, 128),
+        24,
+        "status 2 bad wav unsupported 24\n",
+    ),
+    (
+        34,
+        8,
+        WavKind::Unsupported(Field::Bits, 8),
+        34,
+        "status 2 bad wav unsupported 34\n",
+    ),
+    (
+        32,
+        4,
+        WavKind::BadFmt(Field::Align),
+        32,
+        "status 2 bad wav badfmt 32\n",
+    ),
+    (40, 2, WavKind::Short, 44, "status 2 bad wav short 44\n"),
+];
+
 // The kind and the place of the first rule that fails, and their line.
 #[test]
 fn refused_heads(rt: HostRuntime) -> Result<(), Fail> {
-    for (at, byte, kind, place, line) in [
-        (
-            0usize,
-            0x72u8,
-            WavKind::NotRiff,
-            0u64,
-            "status 2 bad wav notriff 0\n",
-        ),
-        (8, 0x77, WavKind::NotRiff, 8, "status 2 bad wav notriff 8\n"),
-        (12, 0x46, WavKind::NoFmt, 36, "status 2 bad wav nofmt 36\n"),
-        (
-            36,
-            0x44,
-            WavKind::NoData,
-            44,
-            "status 2 bad wav nodata 44\n",
-        ),
-        (
-            16,
-            14,
-            WavKind::BadFmt(Field::Size),
-            16,
-            "status 2 bad wav badfmt 16\n",
-        ),
-        (
-            20,
-            3,
-            WavKind::Unsupported(Field::Tag, 3),
-            20,
-            "status 2 bad wav unsupported 20\n",
-        ),
-        (
-            22,
-            7,
-            WavKind::Unsupported(Field::Channels, 7),
-            22,
-            "status 2 bad wav unsupported 22\n",
-        ),
-        (
-            25,
-            0,
-            WavKind::Unsupported(Field::Rate, 128),
-            24,
-            "status 2 bad wav unsupported 24\n",
-        ),
-        (
-            34,
-            8,
-            WavKind::Unsupported(Field::Bits, 8),
-            34,
-            "status 2 bad wav unsupported 34\n",
-        ),
-        (
-            32,
-            4,
-            WavKind::BadFmt(Field::Align),
-            32,
-            "status 2 bad wav badfmt 32\n",
-        ),
-        (40, 2, WavKind::Short, 44, "status 2 bad wav short 44\n"),
-    ] {
+    let words = again!(rt; words_of(rt.alloc(), "192"));
+    for (at, byte, kind, place, line) in REFUSED {
         let mut head = EMPTY;
         write(&mut head, at, &[byte]);
-        let left = encoded(rt.alloc(), &head)?;
+        let left = left_by(rt, &words, &head, NONE)?;
         assert!(rt;
             refuses(&left, Status::BadWav(kind, place), line),
             "at {at}"
@@ -319,83 +446,114 @@ fn refused_heads(rt: HostRuntime) -> Result<(), Fail> {
     Ok(())
 }
 
-// Chunks of odd and even size before the data are passed over with their pad bytes; a chunk of odd size without one is short.
-#[test]
-fn chunks_are_passed_over(rt: HostRuntime) -> Result<(), Fail> {
-    let mut bytes = Vec::from_slice(rt.alloc(), &EMPTY[..12])?;
+/// The WAV without data, with a chunk before its format and one before its data.
+fn with_chunks(alloc: Global) -> Result<Vec<u8>, AllocError> {
+    let mut bytes = Vec::with_capacity(alloc, 66)?;
+    bytes.extend_from_slice(&EMPTY[..12])?;
     bytes.extend_from_slice(b"LIST\x03\0\0\0abc\0")?;
     bytes.extend_from_slice(&EMPTY[12..36])?;
     bytes.extend_from_slice(b"fact\x02\0\0\0xy")?;
     bytes.extend_from_slice(&EMPTY[36..])?;
-    assert_eq!(rt; encoded(rt.alloc(), &bytes)?.status, Status::Ok);
+    Ok(bytes)
+}
+
+// Chunks of odd and even size before the data are passed over with their pad bytes; a chunk of odd size without one is short.
+#[test]
+fn chunks_are_passed_over(rt: HostRuntime) -> Result<(), Fail> {
+    let bytes = again!(rt; with_chunks(rt.alloc()));
+    assert_eq!(rt; encoded(rt, &bytes)?.status, Status::Ok);
     for (cut, kind) in [
         (23, WavKind::Short),
         (24, WavKind::NoData),
         (31, WavKind::Short),
         (57, WavKind::Short),
     ] {
-        let left = encoded(rt.alloc(), &bytes[..cut])?;
+        let left = encoded(rt, front(&bytes, cut))?;
         assert_eq!(rt; left.status, Status::BadWav(kind, cut as u64), "at {cut}");
     }
     Ok(())
 }
 
+/// Sample `place` of a sound.
+fn sample(place: u16) -> [u8; 2] {
+    place.wrapping_mul(7919).to_le_bytes()
+}
+
+/// A WAV of the sound's first 3,000 samples, of 16 bits.
+fn plain_sound(alloc: Global) -> Result<Vec<u8>, AllocError> {
+    let mut bytes = Vec::with_capacity(alloc, 6044)?;
+    bytes.extend_from_slice(&head_of(6000))?;
+    for place in 0..3000u16 {
+        bytes.extend_from_slice(&sample(place))?;
+    }
+    Ok(bytes)
+}
+
+/// The same of 24 bits.
+fn wide_sound(alloc: Global) -> Result<Vec<u8>, AllocError> {
+    let mut bytes = Vec::with_capacity(alloc, 9068)?;
+    bytes.extend_from_slice(WIDE)?;
+    for place in 0..3000u16 {
+        bytes.push(0)?;
+        bytes.extend_from_slice(&sample(place))?;
+    }
+    Ok(bytes)
+}
+
 // The same samples in the plain form and in 24 bits of the extensible form are one stream.
 #[test]
 fn forms_of_one_sound(rt: HostRuntime) -> Result<(), Fail> {
-    let mut plain = Vec::from_slice(rt.alloc(), &head_of(6000))?;
-    let mut wide = Vec::from_slice(rt.alloc(), WIDE)?;
-    for place in 0..3000u32 {
-        let sample = (place * 7919 % 65536) as u16;
-        plain.extend_from_slice(&sample.to_le_bytes())?;
-        wide.push(0)?;
-        wide.extend_from_slice(&sample.to_le_bytes())?;
-    }
-    let left = encoded(rt.alloc(), &plain)?;
-    let again = encoded(rt.alloc(), &wide)?;
+    let left = encoded(rt, &again!(rt; plain_sound(rt.alloc())))?;
+    let again = encoded(rt, &again!(rt; wide_sound(rt.alloc())))?;
     assert_eq!(rt; left.status, Status::Ok);
-    assert_eq!(rt; left.output.len(), 3 * 768);
+    assert_eq!(rt; left.output.bytes().len(), 3 * 768);
     assert_eq!(rt; again.status, Status::Ok);
-    assert!(rt; left.output.as_slice() == again.output.as_slice());
-    assert!(rt; left.report.as_slice() == again.report.as_slice());
+    assert!(rt; left.output.bytes() == again.output.bytes());
+    assert!(rt; left.report.bytes() == again.report.bytes());
     Ok(())
 }
 
 // At 44.1 kHz and 192 kbit/s frames 0 and 1 have 417 and 418 words, and the codes 20 and 21; at 32 kHz each has 576.
 #[test]
 fn alternating_frame_sizes(rt: HostRuntime) -> Result<(), Fail> {
-    let mut bytes = silence(rt.alloc(), 2000)?;
+    let mut bytes = again!(rt; silence(rt.alloc(), 2000));
     write(&mut bytes, 24, &[0x44, 0xac]);
-    let left = encoded(rt.alloc(), &bytes)?;
+    let left = encoded(rt, &bytes)?;
     assert_eq!(rt; left.status, Status::Ok);
     assert!(rt;
-        left.report.as_slice()
+        left.report.bytes()
             == "frame 0 size 834 base\nframe 1 size 836 base\nstatus 0 ok\n".as_bytes()
     );
-    assert_eq!(rt; left.output.len(), 834 + 836);
-    assert_eq!(rt; left.output[4], 0x40 + 20);
-    assert!(rt; left.output[834..836] == [0x0b, 0x77]);
-    assert_eq!(rt; left.output[834 + 4], 0x40 + 21);
+    assert_eq!(rt; left.output.bytes().len(), 834 + 836);
+    assert_eq!(rt; left.output.bytes()[4], 0x40 + 20);
+    assert!(rt; left.output.bytes()[834..836] == [0x0b, 0x77]);
+    assert_eq!(rt; left.output.bytes()[834 + 4], 0x40 + 21);
     write(&mut bytes, 24, &[0x00, 0x7d]);
-    let left = encoded(rt.alloc(), &bytes)?;
-    assert_eq!(rt; left.output.len(), 2 * 1152);
-    assert_eq!(rt; left.output[4], 0x80 + 20);
+    let left = encoded(rt, &bytes)?;
+    assert_eq!(rt; left.output.bytes().len(), 2 * 1152);
+    assert_eq!(rt; left.output.bytes()[4], 0x80 + 20);
     Ok(())
+}
+
+/// A chunk that goes on past the limit of 2^26 bytes, with one byte behind the limit.
+fn with_long_chunk(alloc: Global) -> Result<Vec<u8>, AllocError> {
+    let mut bytes = Vec::with_capacity(alloc, (1 << 26) + 1)?;
+    bytes.extend_from_slice(&EMPTY[..12])?;
+    bytes.extend_from_slice(b"LIST\xff\xff\xff\x7f")?;
+    bytes.resize((1 << 26) + 1, 0)?;
+    Ok(bytes)
 }
 
 // A byte past the limit of 2^26 is refused only where it is there; else the input is short.
 #[test]
 fn too_long(rt: HostRuntime) -> Result<(), Fail> {
     let head = head_of((1 << 26) - 43);
-    let left = encoded(rt.alloc(), &with_zeros(rt.alloc(), &head, 2)?)?;
+    let left = encoded(rt, &again!(rt; with_zeros(rt.alloc(), &head, 2)))?;
     assert_eq!(rt; left.status, Status::BadWav(WavKind::Short, 46));
-    let mut bytes = Vec::from_slice(rt.alloc(), &EMPTY[..12])?;
-    bytes.extend_from_slice(b"LIST\xff\xff\xff\x7f")?;
-    bytes.resize(1 << 26, 0)?;
-    let left = encoded(rt.alloc(), &bytes)?;
+    let bytes = again!(rt; with_long_chunk(rt.alloc()));
+    let left = encoded(rt, front(&bytes, 1 << 26))?;
     assert_eq!(rt; left.status, Status::BadWav(WavKind::Short, 1 << 26));
-    bytes.push(0)?;
-    let left = encoded(rt.alloc(), &bytes)?;
+    let left = encoded(rt, &bytes)?;
     let limit = 1 << 26;
     assert!(rt;
         refuses(
@@ -410,31 +568,27 @@ fn too_long(rt: HostRuntime) -> Result<(), Fail> {
 // An odd byte at the end of the data is read and passed over, and what follows the data isn't looked at.
 #[test]
 fn odd_data_and_a_rest(rt: HostRuntime) -> Result<(), Fail> {
-    let bytes = with_zeros(rt.alloc(), &head_of(2561), 2661)?;
-    let left = encoded(rt.alloc(), &bytes)?;
+    let bytes = again!(rt; with_zeros(rt.alloc(), &head_of(2561), 2661));
+    let left = encoded(rt, &bytes)?;
     assert_eq!(rt; left.status, Status::Ok);
-    assert_eq!(rt; left.output.len(), 768);
+    assert_eq!(rt; left.output.bytes().len(), 768);
     Ok(())
 }
 
 #[test]
 fn words_outside_the_grammar(rt: HostRuntime) -> Result<(), Fail> {
     for rate in ["193", "0192", "-192", ""] {
-        let words = words_of(rt.alloc(), rate)?;
-        let left = left_by(rt.alloc(), &words, &EMPTY, NONE)?;
+        let words = again!(rt; words_of(rt.alloc(), rate));
+        let left = left_by(rt, &words, &EMPTY, NONE)?;
         assert!(rt; refuses(&left, Status::Usage, "status 1 usage\n"), "{rate}");
     }
-    let left = left_by(rt.alloc(), &[], &EMPTY, NONE)?;
+    let left = left_by(rt, &[], &EMPTY, NONE)?;
     assert!(rt; refuses(&left, Status::Usage, "status 1 usage\n"));
     Ok(())
 }
 
-/// The lines of the first three frames of a sound at 48 kHz and 192 kbit/s.
-const LINES: [&str; 3] = [
-    "frame 0 size 768 base\n",
-    "frame 1 size 768 base\n",
-    "frame 2 size 768 base\n",
-];
+/// The lines of the first three frames of a sound at 48 kHz and 192 kbit/s, of 22 bytes each.
+const LINES: &str = "frame 0 size 768 base\nframe 1 size 768 base\nframe 2 size 768 base\n";
 
 /// What a run that a fault stopped leaves: whole frames of the plain run, lines of the report, and the status line.
 #[derive(Clone, Copy)]
@@ -445,20 +599,20 @@ struct Stopped {
     end: &'static str,
 }
 
+/// Whether a report is these lines and then this end.
+fn ends_so(report: &[u8], lines: &[u8], end: &[u8]) -> bool {
+    report.len() == lines.len().saturating_add(end.len())
+        && report.starts_with(lines)
+        && report.ends_with(end)
+}
+
 /// Whether a run left this, beside what the plain run left.
-fn stops_so(alloc: Global, left: &Left, plain: &Left, wanted: Stopped) -> Result<bool, AllocError> {
-    let mut report = Vec::new(alloc);
-    for line in LINES.iter().take(wanted.lines) {
-        report.extend_from_slice(line.as_bytes())?;
-    }
-    report.extend_from_slice(wanted.end.as_bytes())?;
-    let mut output = Vec::from_slice(alloc, &plain.output)?;
-    output.truncate(wanted.frames.saturating_mul(768));
-    Ok(
-        left.status == wanted.status
-            && left.output.as_slice() == output.as_slice()
-            && left.report.as_slice() == report.as_slice(),
-    )
+fn stops_so(left: &Left, plain: &Left, wanted: Stopped) -> bool {
+    let frames = front(plain.output.bytes(), wanted.frames.saturating_mul(768));
+    let lines = front(LINES.as_bytes(), wanted.lines.saturating_mul(22));
+    left.status == wanted.status
+        && left.output.bytes() == frames
+        && ends_so(left.report.bytes(), lines, wanted.end.as_bytes())
 }
 
 /// What is left where this call of the output fails, over three frames.
@@ -503,54 +657,73 @@ const UNREAD: Stopped = Stopped {
     end: "status 6 read fault\n",
 };
 
-// Over three frames of a sound each read of the input, each write of the output and each write of the report fails in turn,
-// up to the first that no run makes.
+/// A sound of three frames, and what a plain run over it left.
+#[derive(Drop)]
+struct Plain {
+    words: Vec<String>,
+    bytes: Vec<u8>,
+    left: Left,
+}
+
+fn plain_run(rt: HostRuntime) -> Result<Plain, Fail> {
+    let words = again!(rt; words_of(rt.alloc(), "192"));
+    let bytes = again!(rt; plain_sound(rt.alloc()));
+    let left = left_by(rt, &words, &bytes, NONE)?;
+    Ok(Plain { words, bytes, left })
+}
+
+// Over three frames each read of the input fails in turn, up to the first that no run makes.
 #[test]
-fn each_call_fails_in_turn(rt: HostRuntime) -> Result<(), Fail> {
-    let words = words_of(rt.alloc(), "192")?;
-    let mut bytes = Vec::from_slice(rt.alloc(), &head_of(6000))?;
-    for place in 0..3000u32 {
-        let sample = (place * 7919 % 65536) as u16;
-        bytes.extend_from_slice(&sample.to_le_bytes())?;
-    }
-    let plain = left_by(rt.alloc(), &words, &bytes, NONE)?;
-    assert!(rt; stops_so(rt.alloc(), &plain, &plain, DONE)?);
-    assert_eq!(rt; plain.output.len(), 3 * 768);
+fn each_read_fails_in_turn(rt: HostRuntime) -> Result<(), Fail> {
+    let plain = plain_run(rt)?;
+    assert!(rt; stops_so(&plain.left, &plain.left, DONE));
+    assert_eq!(rt; plain.left.output.bytes().len(), 3 * 768);
     let mut reads = 0u64;
     for call in 0..20u64 {
         let failing = Failing {
             input: &[call],
             ..NONE
         };
-        let left = left_by(rt.alloc(), &words, &bytes, failing)?;
+        let left = left_by(rt, &plain.words, &plain.bytes, failing)?;
         if left.status == Status::Ok {
             break;
         }
-        assert!(rt; stops_so(rt.alloc(), &left, &plain, UNREAD)?, "read {call}");
+        assert!(rt; stops_so(&left, &plain.left, UNREAD), "read {call}");
         reads = call;
     }
     // The head is read in several pieces, and the data in as many as there are frames or more.
     assert!(rt; reads > 3 && reads < 19, "{reads}");
+    Ok(())
+}
+
+// So does each write of the output.
+#[test]
+fn each_write_fails_in_turn(rt: HostRuntime) -> Result<(), Fail> {
+    let plain = plain_run(rt)?;
     for call in 0..4usize {
         let failing = Failing {
             output: &[call as u64],
             ..NONE
         };
-        let left = left_by(rt.alloc(), &words, &bytes, failing)?;
+        let left = left_by(rt, &plain.words, &plain.bytes, failing)?;
         let wanted = if call < 3 { at_output(call) } else { DONE };
-        assert!(rt;
-            stops_so(rt.alloc(), &left, &plain, wanted)?,
-            "write {call}"
-        );
+        assert!(rt; stops_so(&left, &plain.left, wanted), "write {call}");
     }
+    Ok(())
+}
+
+// So does each line of the report.
+#[test]
+fn each_line_fails_in_turn(rt: HostRuntime) -> Result<(), Fail> {
+    let plain = plain_run(rt)?;
     for call in 0..5usize {
         let failing = Failing {
             report: &[call as u64],
             ..NONE
         };
-        let left = left_by(rt.alloc(), &words, &bytes, failing)?;
+        let left = left_by(rt, &plain.words, &plain.bytes, failing)?;
         let wanted = if call < 4 { at_report(call) } else { DONE };
-        assert!(rt; stops_so(rt.alloc(), &left, &plain, wanted)?, "line {call}");
+        assert!(rt; stops_so(&left, &plain.left, wanted), "line {call}");
     }
     Ok(())
 }
