@@ -44,7 +44,7 @@ fn job<S: Source, O: Sink, N: Sink>(
     ensures most_read { (bytes : List ℕ) → S.left input.old ≡ Some bytes → TakesAtMost bytes (limit + 1) (S.left input.new) }
     ensures read { result ≡ Status.ReadFault → Rose (S.faults input.old) (S.faults input.new) }
     ensures write { result ≡ Status.WriteFault → Rose (O.faults output.old) (O.faults output.new) ⊎ Rose (N.faults report.old) (N.faults report.new) }
-    ensures inside { (result ≡ Status.Usage) ⊎ ((result ≡ Status.NoMemory) ⊎ InGrammar (map string_bytes words.now)) }
+    ensures outside { (InGrammar (map string_bytes words.now) → ⊥) → result ≡ Status.Usage }
     ensures input_count { S.faults input.old ≤ S.faults input.new }
     ensures output_count { O.faults output.old ≤ O.faults output.new }
     ensures report_count { N.faults report.old ≤ N.faults report.new }
@@ -101,7 +101,7 @@ pub fn run<S: Source, O: Sink, N: Sink>(
     ensures most_read { (bytes : List ℕ) → S.left input.old ≡ Some bytes → TakesAtMost bytes (limit + 1) (S.left input.new) }
     // Usage exactly outside the grammar, and then nothing is read.
     ensures usage { result ≡ Status.Usage → InGrammar (map string_bytes words.now) → ⊥ }
-    ensures outside { (InGrammar (map string_bytes words.now) → ⊥) → (result ≡ Status.Usage) ⊎ (result ≡ Status.NoMemory) }
+    ensures outside { (InGrammar (map string_bytes words.now) → ⊥) → result ≡ Status.Usage }
     ensures untouched { result ≡ Status.Usage → input.new ≡ input.old }
     // Nothing is written to the output before a refusal, whatever the objects tell.
     ensures unwritten { result ≢ Status.Ok → result ≢ Status.WriteFault → output.new ≡ output.old }
