@@ -70,6 +70,6 @@ abbrev pub StopsAt : List Text → Option (List Deed) → Option (List Deed) →
 StopsAt ws old new =
     (n : LastWords) × GivesNames ws n × ((deeds : List Deed) × Stopped n deeds × Did old new (deeds ++ said open_fault_line ∷ []))
 
--- nothing was asked for, and one line was said: usage, where the words are outside the grammar, or want of memory
+-- the words are outside the grammar: nothing was asked for, and usage was said
 abbrev pub Refuses : List Text → WordsFault → Option (List Deed) → Option (List Deed) → Type 0
-Refuses ws fault old new = (fault ≡ faults.Usage → InGrammar ws → ⊥) × Did old new (said (status_line (status_of_words fault)) ∷ [])
+Refuses ws fault old new = (fault ≡ faults.Usage) × (InGrammar ws → ⊥) × Did old new (said (status_line (status_of_words fault)) ∷ [])
