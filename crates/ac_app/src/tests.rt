@@ -47,6 +47,8 @@ struct Left {
     status: Status,
     output: MemSink,
     report: MemSink,
+    /// Whether the report takes its first line, and tells it.
+    is_told: bool,
 }
 
 /// Whether memory was wanting in a run, or in one of its sinks.
@@ -58,8 +60,11 @@ fn is_starved(left: &Left) -> bool {
 /// the plain output, and another answer than Ok.
 fn may_leave(left: &Left, plain: &Left) -> bool {
     if left.status == Status::NoMemory {
-        let is_told = !plain.report.bytes().is_empty();
-        let line = if is_told { "status 9 no memory\n" } else { "" };
+        let line = if left.is_told {
+            "status 9 no memory\n"
+        } else {
+            ""
+        };
         return refuses(left, Status::NoMemory, line);
     }
     left.status != Status::Ok && plain.output.bytes().starts_with(left.output.bytes())
@@ -112,6 +117,7 @@ fn once(
         status,
         output,
         report,
+        is_told: !failing.report.contains(&0),
     })
 }
 
@@ -241,6 +247,7 @@ fn without_report(alloc: Global, words: &[String], bytes: &[u8]) -> Result<Left,
         status,
         output,
         report,
+        is_told: false,
     })
 }
 
@@ -254,6 +261,7 @@ fn without_output(alloc: Global, words: &[String], bytes: &[u8]) -> Result<Left,
         status,
         output,
         report,
+        is_told: true,
     })
 }
 
