@@ -1,26 +1,22 @@
 //! `ac3 COMMAND OPTIONS IN OUT REPORT`: opens the three named things, does the command, and ends with its code.
 #![tactic(auto)]
 
+mod arguments;
 mod desk;
 mod host;
 mod perform;
 
 use ac_app::WordsFault;
+use arguments::{behind_name, fault_of};
 use host::HostDesk;
 use perform::{perform, refuse};
-use std::io::ErrorKind;
 use std::process::ExitCode;
 
-/// The arguments behind the program's own name. Where one is no text, they are no words of the grammar.
+/// The words that the program is given.
 fn words(rt: &HostRuntime) -> Result<Vec<String>, WordsFault> {
-    let arguments = match std::env::args(rt) {
-        Ok(arguments) => arguments,
-        Err(error) if error.kind() == ErrorKind::OutOfMemory => return Err(WordsFault::NoMemory),
-        Err(_) => return Err(WordsFault::Usage),
-    };
-    match arguments.skip(1).collect(rt.alloc()) {
-        Ok(words) => Ok(words),
-        Err(_) => Err(WordsFault::NoMemory),
+    match std::env::args(rt) {
+        Ok(arguments) => behind_name(rt.alloc(), arguments).map_err(|_| WordsFault::NoMemory),
+        Err(error) => Err(fault_of(error.kind())),
     }
 }
 
