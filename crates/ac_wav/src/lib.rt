@@ -11,6 +11,8 @@ mod format;
 mod head;
 mod law;
 mod layout;
+#[cfg(test)]
+mod memory;
 mod pieces;
 mod samples;
 mod written;

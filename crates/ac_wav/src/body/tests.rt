@@ -3,7 +3,8 @@ ghost use Rattle.ac_wav.specs.Form.{IsOfProfile};
 
 use super::*;
 use crate::law::wav_law;
-use ac_io::{MemSource, StdSource};
+use crate::memory;
+use ac_io::StdSource;
 use std::test::Fail;
 
 /// A head of this many channels and bits, whose data begin at byte 44.
@@ -98,7 +99,7 @@ fn whole_wav_and_what_follows(rt: HostRuntime) {
 #[test]
 fn whole_frames_and_a_rest(rt: HostRuntime) -> Result<(), Fail> {
     let bytes = [1; 3072 + 3];
-    let mut source = MemSource::new(bytes.to_vec(rt.alloc())?, [].to_vec(rt.alloc())?);
+    let mut source = memory::source(&rt, &bytes, &[])?;
     let mut body = WavBody::new(&head(1, false, 16, None), 44 + 3075);
     let mut out = [[0; 1536]; 6];
     assert_eq!(rt; body.samples(&mut source, &mut out), Ok(1536));
@@ -151,7 +152,7 @@ fn samples_within_limit(rt: HostRuntime) {
 
 #[test]
 fn a_failed_read_is_kept(rt: HostRuntime) -> Result<(), Fail> {
-    let mut source = MemSource::new([1, 0, 2, 0].to_vec(rt.alloc())?, [0].to_vec(rt.alloc())?);
+    let mut source = memory::source(&rt, &[1, 0, 2, 0], &[0])?;
     let mut body = WavBody::new(&head(1, false, 16, Some(4)), 1000);
     let mut out = [[0; 1536]; 6];
     assert_eq!(rt;

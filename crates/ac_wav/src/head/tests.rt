@@ -1,7 +1,8 @@
 use super::*;
 use crate::fault::Field;
 use crate::law::head_law;
-use ac_io::{MemSource, StdSource};
+use crate::memory;
+use ac_io::StdSource;
 use std::test::Fail;
 
 /// A head of 44 bytes: PCM, one channel of 16 bits at 48 kHz, no data.
@@ -289,7 +290,7 @@ static CHUNKS: [u8; 72] = [
 
 #[test]
 fn chunks_are_passed_over(rt: HostRuntime) -> Result<(), Fail> {
-    let mut source = MemSource::new(CHUNKS.to_vec(rt.alloc())?, [].to_vec(rt.alloc())?);
+    let mut source = memory::source(&rt, &CHUNKS, &[])?;
     let head = WavHead {
         fscod: 1,
         acmod: 2,
@@ -314,7 +315,7 @@ fn chunks_are_passed_over(rt: HostRuntime) -> Result<(), Fail> {
         Err(WavFault::Bad(WavKind::Short, 23))
     );
     // the third read fails
-    let mut broken = MemSource::new(CHUNKS.to_vec(rt.alloc())?, [2].to_vec(rt.alloc())?);
+    let mut broken = memory::source(&rt, &CHUNKS, &[2])?;
     assert_eq!(rt; WavHead::read(&mut broken, 1000), Err(WavFault::ReadFault));
     Ok(())
 }
