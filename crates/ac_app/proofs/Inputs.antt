@@ -15,8 +15,9 @@ use Rattle.ac_wav.specs.Whole.{EndsWithin}
 use Rattle.ac_wav.proofs.Endings as heads
 use Rattle.ac_wav.proofs.Each as heads_each
 use Rattle.ac_wav.proofs.Whole.{head_cut, wav_never_both, wav_one_refusal, each_within, never_ends_and_needs, never_refused_and_needs}
-use Rattle.ac_app.specs.declared.input.Fault.TheVariants as faults
-use Rattle.ac_app.specs.Input.{limit, IsMono, IsOther, IsInput, HasNoOther, IsNotYet, Refuses, IsTooLong, IsStopped}
+use Rattle.ac_app.specs.Input.{limit, IsMono, IsOther, IsInput, HasNoOther, IsNotYet, IsRefused, IsTooLong}
+use Rattle.ac_app.specs.Run.{EncodeHasCause}
+use Rattle.ac_app.specs.Loop.{unread_status}
 
 -- ---- heads
 
@@ -46,14 +47,14 @@ sampling bytes head i =
 
 -- ---- never two of them
 
-pub never_both : (bytes : List ℕ) (head : WavHead) (kind : WavKind) (place : ℕ) → IsInput bytes head → Refuses bytes kind place → ⊥
+pub never_both : (bytes : List ℕ) (head : WavHead) (kind : WavKind) (place : ℕ) → IsInput bytes head → IsRefused bytes kind place → ⊥
 never_both bytes head kind place i (inl r) = no_other bytes head (begins bytes head i) i.mono r.1.0 r.1.1
 never_both bytes head kind place i (inr r) = wav_never_both bytes head kind place i.wav.whole r.0.0
 
 pub never_longer : (bytes : List ℕ) (head : WavHead) → IsInput bytes head → IsTooLong bytes → ⊥
 never_longer bytes head i t = never_ends_and_needs bytes head limit i.wav t.0
 
-pub never_refused : (bytes : List ℕ) (kind : WavKind) (place : ℕ) → Refuses bytes kind place → IsTooLong bytes → ⊥
+pub never_refused : (bytes : List ℕ) (kind : WavKind) (place : ℕ) → IsRefused bytes kind place → IsTooLong bytes → ⊥
 never_refused bytes kind place (inl r) t = t.1 r.1.0 r.1.1
 never_refused bytes kind place (inr r) t = never_refused_and_needs bytes kind place limit r.0 t.0
 
@@ -62,7 +63,7 @@ not_yet_once bytes kind other place there r s =
     let same = heads.one_head bytes r.1.0 s.1.0 r.1.1.begins s.1.1.begins in
     (r.0 ∙ sym s.0, r.1.2 ∙ (ap (λ (w : WavHead). w.taken) same ∙ sym s.1.2))
 
-pub one_refusal : (bytes : List ℕ) (kind other : WavKind) (place there : ℕ) → Refuses bytes kind place → Refuses bytes other there → (kind ≡ other) × (place ≡ there)
+pub one_refusal : (bytes : List ℕ) (kind other : WavKind) (place there : ℕ) → IsRefused bytes kind place → IsRefused bytes other there → (kind ≡ other) × (place ≡ there)
 one_refusal bytes kind other place there (inl r) (inl s) = not_yet_once bytes kind other place there r s
 one_refusal bytes kind other place there (inl r) (inr s) = absurd (s.1 r.1.0 r.1.1)
 one_refusal bytes kind other place there (inr r) (inl s) = absurd (r.1 s.1.0 s.1.1)
@@ -101,10 +102,10 @@ other_known bytes = elim (heads_each.each bytes) [
 ends_other : (bytes : List ℕ) (head : WavHead) → EndsWithin bytes head limit → (IsMono head → ⊥) → IsOther bytes head
 ends_other bytes head w other = record { begins = w.whole.begins; within = omega (arith, w.within); other = other }
 
-not_yet : (bytes : List ℕ) (head : WavHead) → IsOther bytes head → Refuses bytes NotYet head.taken
+not_yet : (bytes : List ℕ) (head : WavHead) → IsOther bytes head → IsRefused bytes NotYet head.taken
 not_yet bytes head o = inl (refl, (head, o, refl))
 
-pub each : (bytes : List ℕ) → ((head : WavHead) × IsInput bytes head) ⊎ (((kind : WavKind) × (place : ℕ) × Refuses bytes kind place) ⊎ IsTooLong bytes)
+pub each : (bytes : List ℕ) → ((head : WavHead) × IsInput bytes head) ⊎ (((kind : WavKind) × (place : ℕ) × IsRefused bytes kind place) ⊎ IsTooLong bytes)
 each bytes = elim (other_known bytes) [
   | inl o ↦ inr (inl (NotYet, o.0.taken, not_yet bytes o.0 o.1))
   | inr none ↦ elim (each_within bytes limit) [
@@ -119,13 +120,13 @@ each bytes = elim (other_known bytes) [
 
 -- ---- what a reader of the head was told
 
-pub head_stopped : (bytes : List ℕ) (fault : WavFault) → ends.IsStopped bytes limit fault → IsStopped bytes (faults.Wav fault)
-head_stopped bytes (wav_faults.Bad kind place) r = inr ((inl r.0, inl r.1), λ head o. heads.never_both bytes head kind place o.begins r.0)
-head_stopped bytes wav_faults.ReadFault r = tt
-head_stopped bytes wav_faults.TooLong (more, inl r) =
-    ((more, inl (inl r)), λ head o. heads.never_both (take limit bytes) head Short limit (head_cut bytes head limit o.begins o.within) r)
-head_stopped bytes wav_faults.TooLong (more, inr r) =
-    ((more, inr (inl r)), λ head o. heads.never_both (take limit bytes) head NoData limit (head_cut bytes head limit o.begins o.within) r)
+pub head_cause : (bytes : List ℕ) (fault : WavFault) → ends.IsStopped bytes limit fault → EncodeHasCause (unread_status fault) bytes
+head_cause bytes (wav_faults.Bad kind place) r = inr ((inl r.0, inl r.1), λ head o. heads.never_both bytes head kind place o.begins r.0)
+head_cause bytes wav_faults.ReadFault r = tt
+head_cause bytes wav_faults.TooLong (more, inl r) =
+    (((more, inl (inl r)), λ head o. heads.never_both (take limit bytes) head Short limit (head_cut bytes head limit o.begins o.within) r), refl)
+head_cause bytes wav_faults.TooLong (more, inr r) =
+    (((more, inr (inl r)), λ head o. heads.never_both (take limit bytes) head NoData limit (head_cut bytes head limit o.begins o.within) r), refl)
 
-pub other_layout : (bytes : List ℕ) (head : WavHead) (left : Option (List ℕ)) → HeadRead bytes limit head left → (IsMono head → ⊥) → Refuses bytes NotYet head.taken
+pub other_layout : (bytes : List ℕ) (head : WavHead) (left : Option (List ℕ)) → HeadRead bytes limit head left → (IsMono head → ⊥) → IsRefused bytes NotYet head.taken
 other_layout bytes head left h other = not_yet bytes head (record { begins = h.is; within = h.within; other = other })

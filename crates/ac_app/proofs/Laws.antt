@@ -1,94 +1,162 @@
 -- Streams by their definitions alone.
-use Rattle.std.proofs.Common.{◌≡◌, ℕ, zero, suc, ◌+◌, ◌-◌, ◌*◌, ◌<◌, ◌≤◌, List, ◌++◌, length, take, drop, ap, ap₂, sym, subst, ◌∙◌, arith, length-append}
+use Rattle.std.proofs.Common.{◌≡◌, ℕ, zero, suc, ◌+◌, ◌-◌, ◌*◌, ◌<◌, ◌≤◌, List, [], ◌++◌, length, take, drop, refl, ap, ap₂, sym, subst, ◌∙◌, arith, inl, inr, length-append, append_assoc}
 use Rattle.std.specs.Prelude.{ℤ, pos, nat_lt, if◌then◌else◌}
 use Rattle.std.proofs.Math.Seq.{drop-append_seam}
-use Rattle.std.proofs.lemmas.List.{get_or_append_left, get_or-append-add, take-append-le, take_all, drop-take}
+use Rattle.std.proofs.lemmas.Bool.{cases_lt, lt-ltb, le-ltb}
+use Rattle.std.proofs.lemmas.List.{append-nil, take-append-le, take_all}
 use Rattle.ac_base.specs.Rates.{IsRate}
 use Rattle.ac_frame.specs.Plain.{AreBytes}
 use Rattle.ac_enc.specs.Frame.{IsFrame}
 use Rattle.ac_enc.proofs.Frames as frames
 use Rattle.ac_enc.proofs.Places.{frame_same}
-use Rattle.ac_app.specs.Sound.{Sound, sound_at}
-use Rattle.ac_app.specs.Stream.{places, IsStream, frame_size, stream_size}
+use Rattle.ac_words.specs.declared.meaning.Options.{Options}
+use Rattle.ac_app.specs.Sound.{Sound, Continues, sound_at}
+use Rattle.ac_app.specs.Stream.{places, IsFrameAt, IsStream, frame_size, stream_size}
+use Rattle.ac_app.specs.Frames.{Frames, Added}
+use Rattle.ac_app.specs.World.{Sinks}
 
-pub size : (rate k : ℕ) (x : Sound) (s : List ℕ) → IsRate rate → x.fscod ≤ 2 → IsStream rate x k s → length s ≡ stream_size rate x k
+-- ---- sizes
+
+pub size : (o : Options) (k : ℕ) (x : Sound) (s lines : List ℕ) → IsRate o.rate → x.fscod ≤ 2 → IsStream o x k s lines → length s ≡ stream_size o x k
 unfolding IsStream stream_size
-size rate zero x s is f e = ap length e
-size rate (suc k) x s is f p =
-    ap length p.4 ∙ (length-append p.0 p.1 ∙ ap₂ (λ (a b : ℕ). a + b) (size rate k x p.0 is f p.2) (frames.size rate x.fscod k (places x k) p.1 is f p.3))
+size o zero x s lines is f e = ap length e.0
+size o (suc k) x s lines is f (front, frame, said, line, p, w, e, g) =
+    ap length e ∙ (length-append front frame ∙ ap₂ (λ (a b : ℕ). a + b) (size o k x front said is f p) (frames.size o.rate x.fscod k (places x 0 k) frame is f w.is_frame))
 
-bytes_left : (a b s : List ℕ) → s ≡ a ++ b → AreBytes s → AreBytes a
-bytes_left a b s e bs k below =
-    let all = subst (λ (l : List ℕ). AreBytes l) e bs in
-    let h = all k (omega (arith, length-append a b)) in
-    let at = get_or_append_left a b 0 k below in
-    omega (arith, h, at)
+-- ---- the first frames, and those behind them
 
-pub bytes_right : (a b s : List ℕ) → s ≡ a ++ b → AreBytes s → AreBytes b
-bytes_right a b s e bs k below =
-    let all = subst (λ (l : List ℕ). AreBytes l) e bs in
-    let h = all (length a + k) (omega (arith, length-append a b)) in
-    let at = get_or-append-add a b k 0 in
-    omega (arith, h, at)
+-- the first k of them, their lines, and what comes behind
+pub record Front (o : Options) (x : Sound) (k : ℕ) (s lines : List ℕ) : Type 0 where
+  pub front : List ℕ
+  pub said : List ℕ
+  pub back : List ℕ
+  pub later : List ℕ
+  pub is : IsStream o x k front said
+  pub stream : s ≡ front ++ back
+  pub report : lines ≡ said ++ later
 
-pub one_stream : (rate k : ℕ) (x : Sound) (s t : List ℕ) → IsRate rate → x.fscod ≤ 2 → AreBytes s → AreBytes t → IsStream rate x k s → IsStream rate x k t → s ≡ t
+joins : (s front back mid end : List ℕ) → s ≡ front ++ end → front ≡ mid ++ back → s ≡ mid ++ (back ++ end)
+joins s front back mid end e f = e ∙ (ap (λ l. l ++ end) f ∙ append_assoc mid back end)
+
+pub split : (o : Options) (k more : ℕ) (x : Sound) (s lines : List ℕ) → IsStream o x (k + more) s lines → Front o x k s lines
 unfolding IsStream
-one_stream rate zero x s t is f bs bt p q = p ∙ sym q
-one_stream rate (suc k) x s t is f bs bt p q =
-    let before = one_stream rate k x p.0 q.0 is f (bytes_left p.0 p.1 s p.4 bs) (bytes_left q.0 q.1 t q.4 bt) p.2 q.2 in
-    let last = frames.one rate x.fscod k (places x k) p.1 q.1 is f (bytes_right p.0 p.1 s p.4 bs) (bytes_right q.0 q.1 t q.4 bt) p.3 q.3 in
-    p.4 ∙ (ap₂ (λ (a b : List ℕ). a ++ b) before last ∙ sym q.4)
-
--- more frames are no fewer bytes
-more_bytes : (rate k more : ℕ) (x : Sound) → stream_size rate x k ≤ stream_size rate x (k + more)
-unfolding stream_size
-more_bytes rate k zero x = let e : k + 0 ≡ k = omega arith in omega (arith, ap (stream_size rate x) e)
-more_bytes rate k (suc m) x =
-    let e : k + suc m ≡ suc (k + m) = omega arith in
-    omega (arith, more_bytes rate k m x, ap (stream_size rate x) e)
-
-pub front : (rate k more : ℕ) (x : Sound) (s : List ℕ) → IsRate rate → x.fscod ≤ 2 → IsStream rate x (k + more) s → IsStream rate x k (take (stream_size rate x k) s)
-unfolding IsStream
-front rate k zero x s is f p =
+split o k zero x s lines p =
     let same : k + 0 ≡ k = omega arith in
-    let q = subst (λ (n : ℕ). IsStream rate x n s) same p in
-    let all = take_all (stream_size rate x k) s (omega (arith, size rate k x s is f q)) in
-    subst (λ (l : List ℕ). IsStream rate x k l) (sym all) q
-front rate k (suc m) x s is f p =
+    record {
+      front = s;
+      said = lines;
+      back = [];
+      later = [];
+      is = subst (λ (n : ℕ). IsStream o x n s lines) same p;
+      stream = sym (append-nil s);
+      report = sym (append-nil lines);
+    }
+split o k (suc m) x s lines p =
     let same : k + suc m ≡ suc (k + m) = omega arith in
-    let q = subst (λ (n : ℕ). IsStream rate x n s) same p in
-    let long = size rate (k + m) x q.0 is f q.2 in
-    let fits = more_bytes rate k m x in
-    let e = ap (take (stream_size rate x k)) q.4 ∙ take-append-le (stream_size rate x k) q.0 q.1 (omega (arith, long, fits)) in
-    subst (λ (l : List ℕ). IsStream rate x k l) (sym e) (front rate k m x q.0 is f q.2)
+    let q = subst (λ (n : ℕ). IsStream o x n s lines) same p in
+    let f = split o k m x q.0 q.2 q.4 in
+    record {
+      front = f.front;
+      said = f.said;
+      back = f.back ++ q.1;
+      later = f.later ++ q.3;
+      is = f.is;
+      stream = joins s q.0 f.back f.front q.1 q.6 f.stream;
+      report = joins lines q.2 f.later f.said q.3 q.7 f.report;
+    }
 
--- the last frame stands behind the others
-last_frame : (rate i : ℕ) (x : Sound) (s : List ℕ) → IsRate rate → x.fscod ≤ 2 → IsStream rate x (suc i) s → IsFrame rate x.fscod i (places x i) (drop (stream_size rate x i) s)
+-- ---- a frame at its place
+
+-- frame i, its line, and what stands before and behind both
+pub record At (o : Options) (x : Sound) (i : ℕ) (s lines : List ℕ) : Type 0 where
+  pub frame : List ℕ
+  pub said : List ℕ
+  pub line : List ℕ
+  pub later : List ℕ
+  pub is : IsFrameAt o x i frame line
+  pub place : take (frame_size o x i) (drop (stream_size o x i) s) ≡ frame
+  pub report : lines ≡ said ++ (line ++ later)
+
+in_middle : (front frame back s : List ℕ) (n m : ℕ) → length front ≡ n → length frame ≡ m → s ≡ (front ++ frame) ++ back → take m (drop n s) ≡ frame
+in_middle front frame back s n m long size e =
+    let behind : drop n s ≡ frame ++ back = ap₂ (λ (k : ℕ) (l : List ℕ). drop k l) (sym long) (e ∙ append_assoc front frame back) ∙ drop-append_seam front (frame ++ back) in
+    ap (take m) behind ∙ (take-append-le m frame back (omega (arith, size)) ∙ take_all m frame (omega (arith, size)))
+
+last_at : (o : Options) (i : ℕ) (x : Sound) (s lines mid said back later : List ℕ) → IsRate o.rate → x.fscod ≤ 2 → IsStream o x (suc i) mid said → s ≡ mid ++ back → lines ≡ said ++ later → At o x i s lines
 unfolding IsStream
-last_frame rate i x s is f p =
-    let long = size rate i x p.0 is f p.2 in
-    let e = ap (drop (stream_size rate x i)) p.4 ∙ (ap (λ n. drop n (p.0 ++ p.1)) (sym long) ∙ drop-append_seam p.0 p.1) in
-    subst (λ (l : List ℕ). IsFrame rate x.fscod i (places x i) l) (sym e) p.3
+last_at o i x s lines mid said back later is f p e g =
+    record {
+      frame = p.1;
+      said = p.2;
+      line = p.3;
+      later = later;
+      is = p.5;
+      place = in_middle p.0 p.1 back s (stream_size o x i) (frame_size o x i) (size o i x p.0 p.2 is f p.4) (frames.size o.rate x.fscod i (places x 0 i) p.1 is f p.5.is_frame) (e ∙ ap (λ l. l ++ back) p.6);
+      report = joins lines said p.3 p.2 later g p.7;
+    }
 
-one_more : (rate i : ℕ) (x : Sound) → stream_size rate x (suc i) ≡ stream_size rate x i + frame_size rate x i
-unfolding stream_size
-one_more rate i x = ap (λ n. n) (omega arith)
-
-pub frame_at : (rate k i : ℕ) (x : Sound) (s : List ℕ) → IsRate rate → x.fscod ≤ 2 → IsStream rate x k s → i < k → IsFrame rate x.fscod i (places x i) (take (frame_size rate x i) (drop (stream_size rate x i) s))
-frame_at rate k i x s is f p below =
+pub frame_at : (o : Options) (k i : ℕ) (x : Sound) (s lines : List ℕ) → IsRate o.rate → x.fscod ≤ 2 → IsStream o x k s lines → i < k → At o x i s lines
+frame_at o k i x s lines is f p below =
     let same : k ≡ suc i + (k - suc i) = omega arith in
-    let q = front rate (suc i) (k - suc i) x s is f (subst (λ (m : ℕ). IsStream rate x m s) same p) in
-    let e = ap (λ m. drop (stream_size rate x i) (take m s)) (one_more rate i x) ∙ drop-take (stream_size rate x i) (frame_size rate x i) s in
-    subst (λ (l : List ℕ). IsFrame rate x.fscod i (places x i) l) e (last_frame rate i x (take (stream_size rate x (suc i)) s) is f q)
+    let q = split o (suc i) (k - suc i) x s lines (subst (λ (m : ℕ). IsStream o x m s lines) same p) in
+    last_at o i x s lines q.front q.said q.back q.later is f q.is q.stream q.report
 
--- the samples alone tell the stream
-same_sound : (x y : Sound) → ((j : ℕ) → x.sample j ≡ y.sample j) → (p : ℕ) → sound_at x p ≡ sound_at y p
+pub frame_in : (o : Options) (k i : ℕ) (x : Sound) (s lines : List ℕ) → IsRate o.rate → x.fscod ≤ 2 → IsStream o x k s lines → i < k
+    → (said line later : List ℕ) × (lines ≡ said ++ (line ++ later)) × IsFrameAt o x i (take (frame_size o x i) (drop (stream_size o x i) s)) line
+frame_in o k i x s lines is f p below =
+    let a = frame_at o k i x s lines is f p below in
+    (a.said, a.line, a.later, a.report, subst (λ (l : List ℕ). IsFrameAt o x i l a.line) (sym a.place) a.is)
+
+-- ---- the samples alone tell the stream
+
+same_place : (x y : Sound) (n c p : ℕ) → Continues x n y → p < n + 256 → sound_at x c p ≡ sound_at y c p
 unfolding sound_at
-same_sound x y same p = ap (λ (z : ℤ). if nat_lt p 256 then pos 0 else z) (same (p - 256))
+same_place x y n c p same below =
+    elim (cases_lt p 256) [
+      | inl h ↦ ap (λ b. if b then pos 0 else x.sample c (p - 256)) (lt-ltb p 256 h) ∙ sym (ap (λ b. if b then pos 0 else y.sample c (p - 256)) (lt-ltb p 256 h))
+      | inr h ↦ ap (λ (z : ℤ). if nat_lt p 256 then pos 0 else z) (sym (same.samples c (p - 256) (omega arith)))
+    ]
 
-pub told : (rate k : ℕ) (x y : Sound) (s : List ℕ) → x.fscod ≡ y.fscod → ((j : ℕ) → x.sample j ≡ y.sample j) → IsStream rate x k s → IsStream rate y k s
+pub fewer : (x y : Sound) (n m : ℕ) → m ≤ n → Continues x n y → Continues x m y
+fewer x y n m less same = record {
+  fscod = same.fscod;
+  acmod = same.acmod;
+  lfe = same.lfe;
+  samples = λ c j below. same.samples c j (omega arith);
+}
+
+pub turned : (x y : Sound) (n : ℕ) → Continues x n y → Continues y n x
+turned x y n same = record {
+  fscod = sym same.fscod;
+  acmod = sym same.acmod;
+  lfe = sym same.lfe;
+  samples = λ c j below. sym (same.samples c j below);
+}
+
+pub frame_of_each : (o : Options) (i : ℕ) (x y : Sound) (frame line : List ℕ) → Continues x (1536 * (i + 1)) y → IsFrameAt o x i frame line → IsFrameAt o y i frame line
+frame_of_each o i x y frame line same w =
+    let told = frame_same o.rate x.fscod i (places x 0 i) (places y 0 i) frame (λ q below. same_place x y (1536 * (i + 1)) 0 (1536 * i + q) same (omega arith)) w.is_frame in
+    record { is_frame = subst (λ (f : ℕ). IsFrame o.rate f i (places y 0 i) frame) (sym same.fscod) told; is_line = w.is_line }
+
+pub told : (o : Options) (k : ℕ) (x y : Sound) (s lines : List ℕ) → Continues x (1536 * k) y → IsStream o x k s lines → IsStream o y k s lines
 unfolding IsStream
-told rate zero x y s e same p = p
-told rate (suc k) x y s e same p =
-    let frame = frame_same rate x.fscod k (places x k) (places y k) p.1 (λ q below. same_sound x y same (1536 * k + q)) p.3 in
-    (p.0, p.1, told rate k x y p.0 e same p.2, subst (λ (f : ℕ). IsFrame rate f k (places y k) p.1) e frame, p.4)
+told o zero x y s lines same p = p
+told o (suc k) x y s lines same p =
+    let before = fewer x y (1536 * suc k) (1536 * k) (omega arith) same in
+    let here = fewer x y (1536 * suc k) (1536 * (k + 1)) (omega arith) same in
+    (p.0, p.1, p.2, p.3, told o k x y p.0 p.2 before p.4, frame_of_each o k x y p.1 p.3 here p.5, p.6, p.7)
+
+pub of_each : (o : Options) (x : Sound) (k : ℕ) (old new : Sinks) → Frames o x k old new → Added o x k old new
+of_each o x k old new f = record {
+  stream = f.stream;
+  lines = f.lines;
+  are = λ s same. told o k x s f.stream f.lines same f.is_stream;
+  output = f.output;
+  report = f.report;
+}
+
+-- ---- the heads of frames
+
+pub heads : (o : Options) (i : ℕ) (x : Sound) (f line g another : List ℕ) → IsRate o.rate → x.fscod ≤ 2 → AreBytes f → AreBytes g → IsFrameAt o x i f line → IsFrameAt o x i g another
+    → take 4 (drop 4 f) ≡ take 4 (drop 4 g)
+heads o i x f line g another is known bf bg p q = ap (λ l. take 4 (drop 4 l)) (frames.one o.rate x.fscod i (places x 0 i) f g is known bf bg p.is_frame q.is_frame)

@@ -1,8 +1,4 @@
 pub mod Inputs
-pub mod Gathers
 pub mod Places
-pub mod Streams
-pub mod Jobs
-pub mod Ends
 pub mod Laws
-pub mod Done
+pub mod Faults

@@ -1,29 +1,30 @@
 -- The places of a frame, and those of the next.
-use Rattle.std.proofs.Common.{◌≡◌, ℕ, suc, ◌+◌, ◌-◌, ◌*◌, ◌^◌, ◌≤◌, ◌<◌, List, [], ◌++◌, length, drop, Option, Some, None, Result, Ok, Err, refl, ap, sym, subst, ◌∙◌, arith, inl, inr, ℤ, pos, slice_index_or, append_assoc, unsigned_abs, replicate, lit≤}
+use Rattle.std.proofs.Common.{◌≡◌, ℕ, suc, ◌+◌, ◌-◌, ◌*◌, ◌/◌, ◌^◌, ◌≤◌, ◌<◌, Bool, List, [], ◌++◌, length, drop, Option, Some, None, Result, Ok, Err, refl, ap, sym, subst, ◌∙◌, arith, inl, inr, ℤ, pos, slice_index_or, append_assoc, unsigned_abs, replicate, lit≤}
 use Rattle.std.specs.Prelude.{slice_range, if◌then◌else◌}
-use Rattle.std.proofs.lemmas.Bool.{cases_lt, lt-ltb, le-ltb}
+use Rattle.std.proofs.lemmas.Bool.{cases_eq, cases_lt, lt-ltb, le-ltb, ne_eqb}
 use Rattle.std.proofs.lemmas.List.{append-nil, get_or_append_left, get_or-append-add, get_or-drop, get_or-take, get_or-replicate}
 use Rattle.ac_base.specs.Sigma.{Within, Lists}
-use Rattle.ac_base.specs.Sizes.{frame_words_of}
 use Rattle.ac_enc.specs.Frame.{IsFrame, joined}
 use Rattle.ac_io.specs.Outside.{Adds}
 use Rattle.ac_enc.proofs.Places.{frame_same}
-use Rattle.ac_app.specs.Sound.{Sound, AreSamples, sound_at}
+use Rattle.ac_words.specs.declared.meaning.Options.{Options}
+use Rattle.ac_app.specs.Sound.{Sound, sound_at, frame_count}
 use Rattle.ac_app.specs.Lines.{frame_line}
-use Rattle.ac_app.specs.Stream.{places, IsStream, frame_lines, frame_size}
-use Rattle.ac_app.specs.World.{Held, Frames, Emits, IsLast, FrameLeaves, FramesLeave}
-use Rattle.ac_app.specs.declared.frames.Stop.{Stop}
+use Rattle.ac_app.specs.Stream.{places, IsFrameAt, IsStream}
+use Rattle.ac_app.specs.Frames.{Frames, Emits, IsLast, IsOwn, FrameLeaves, FramesLeave}
+use Rattle.ac_app.specs.World.{Sinks}
+use Rattle.ac_app.specs.declared.emit.Broken.{Broken}
 
-before_sound : (s : Sound) (p : ℕ) → p < 256 → sound_at s p ≡ pos 0
+before_sound : (s : Sound) (c p : ℕ) → p < 256 → sound_at s c p ≡ pos 0
 unfolding sound_at
-before_sound s p h = ap (λ b. if b then pos 0 else s.sample (p - 256)) (lt-ltb p 256 h)
+before_sound s c p h = ap (λ b. if b then pos 0 else s.sample c (p - 256)) (lt-ltb p 256 h)
 
-in_sound : (s : Sound) (p j : ℕ) → p ≡ 256 + j → sound_at s p ≡ s.sample j
+in_sound : (s : Sound) (c p j : ℕ) → p ≡ 256 + j → sound_at s c p ≡ s.sample c j
 unfolding sound_at
-in_sound s p j e =
+in_sound s c p j e =
     let late : 256 ≤ p = omega arith in
     let same : p - 256 ≡ j = omega arith in
-    ap (λ b. if b then pos 0 else s.sample (p - 256)) (le-ltb p 256 late) ∙ ap (s.sample) same
+    ap (λ b. if b then pos 0 else s.sample c (p - 256)) (le-ltb p 256 late) ∙ ap (s.sample c) same
 
 zeros_at : (last : List ℤ) → last ≡ replicate 256 (pos 0) → (p : ℕ) → p < 256 → slice_index_or last p (pos 0) ≡ pos 0
 zeros_at last zeros p below = ap (λ l. slice_index_or l p (pos 0)) zeros ∙ get_or-replicate 256 p (pos 0) (pos 0) below
@@ -31,42 +32,38 @@ zeros_at last zeros p below = ap (λ l. slice_index_or l p (pos 0)) zeros ∙ ge
 pub silent_bound : (last : List ℤ) → last ≡ replicate 256 (pos 0) → Within (2 ^ 23) 256 last
 silent_bound last zeros p below = subst (λ (z : ℤ). unsigned_abs z ≤ 2 ^ 23) (sym (zeros_at last zeros p below)) (lit≤ tt)
 
-pub silent : (s : Sound) (last : List ℤ) → last ≡ replicate 256 (pos 0) → IsLast s 0 last
-silent s last zeros p below = zeros_at last zeros p below ∙ sym (before_sound s (1536 * 0 + p) (omega arith))
+pub silent : (s : Sound) (c : ℕ) (last : List ℤ) → last ≡ replicate 256 (pos 0) → IsLast s c 0 last
+silent s c last zeros p below = zeros_at last zeros p below ∙ sym (before_sound s c (1536 * 0 + p) (omega arith))
 
-own_place : (s : Sound) (i p t : ℕ) (pcm : List ℤ) → p ≡ 256 + t → t < 1536 → Lists 1536 (λ t'. s.sample (1536 * i + t')) pcm → slice_index_or pcm t (pos 0) ≡ places s i p
-own_place s i p t pcm e below lists =
-    lists t below ∙ sym (in_sound s (1536 * i + p) (1536 * i + t) (omega arith))
+own_place : (s : Sound) (c i p t : ℕ) (pcm : List ℤ) → p ≡ 256 + t → t < 1536 → IsOwn s c i pcm → slice_index_or pcm t (pos 0) ≡ places s c i p
+own_place s c i p t pcm e below own =
+    own t below ∙ sym (in_sound s c (1536 * i + p) (1536 * i + t) (omega arith))
 
--- the samples that were gathered are those of the sound
-pub own_samples : (s : Sound) (samples pcm : List ℤ) (i : ℕ) → AreSamples s samples → Lists 1536 (λ t. slice_index_or samples (1536 * i + t) (pos 0)) pcm → Lists 1536 (λ t. s.sample (1536 * i + t)) pcm
-own_samples s samples pcm i are lists t below = lists t below ∙ are.each (1536 * i + t)
-
-joined_places : (s : Sound) (i : ℕ) (last pcm : List ℤ) → length last ≡ 256 → IsLast s i last → Lists 1536 (λ t. s.sample (1536 * i + t)) pcm
-    → (p : ℕ) → p < 1792 → joined last pcm p ≡ places s i p
-joined_places s i last pcm long before lists p below =
+joined_places : (s : Sound) (c i : ℕ) (last pcm : List ℤ) → length last ≡ 256 → IsLast s c i last → IsOwn s c i pcm
+    → (p : ℕ) → p < 1792 → joined last pcm p ≡ places s c i p
+joined_places s c i last pcm long before own p below =
     elim (cases_lt p 256) [
       | inl h ↦ get_or_append_left last pcm (pos 0) p (omega arith) ∙ before p h
       | inr h ↦
           let at : p ≡ length last + (p - 256) = omega arith in
           ap (λ n. slice_index_or (last ++ pcm) n (pos 0)) at
-          ∙ (get_or-append-add last pcm (p - 256) (pos 0) ∙ own_place s i p (p - 256) pcm (omega arith) (omega arith) lists)
+          ∙ (get_or-append-add last pcm (p - 256) (pos 0) ∙ own_place s c i p (p - 256) pcm (omega arith) (omega arith) own)
     ]
 
-pub frame_told : (rate fscod : ℕ) (s : Sound) (i : ℕ) (last pcm : List ℤ) (frame : List ℕ) → s.fscod ≡ fscod → length last ≡ 256 → IsLast s i last → Lists 1536 (λ t. s.sample (1536 * i + t)) pcm
-    → IsFrame rate fscod i (joined last pcm) frame → IsFrame rate fscod i (places s i) frame
-frame_told rate fscod s i last pcm frame same long before lists is =
-    frame_same rate fscod i (joined last pcm) (places s i) frame (joined_places s i last pcm long before lists) is
+pub frame_told : (rate fscod : ℕ) (s : Sound) (i : ℕ) (last pcm : List ℤ) (frame : List ℕ) → length last ≡ 256 → IsLast s 0 i last → IsOwn s 0 i pcm
+    → IsFrame rate fscod i (joined last pcm) frame → IsFrame rate fscod i (places s 0 i) frame
+frame_told rate fscod s i last pcm frame long before own is =
+    frame_same rate fscod i (joined last pcm) (places s 0 i) frame (joined_places s 0 i last pcm long before own) is
 
 from_range : (pcm : List ℤ) (p : ℕ) → p < 256 → slice_index_or (slice_range pcm 1280 1536) p (pos 0) ≡ slice_index_or pcm (1280 + p) (pos 0)
 from_range pcm p below = get_or-take 256 (drop 1280 pcm) p (pos 0) below ∙ get_or-drop 1280 pcm p (pos 0)
 
-pub last_next : (s : Sound) (i : ℕ) (pcm last : List ℤ) → last ≡ slice_range pcm 1280 1536 → Lists 1536 (λ t. s.sample (1536 * i + t)) pcm → IsLast s (i + 1) last
-last_next s i pcm last same lists p below =
+pub last_next : (s : Sound) (c i : ℕ) (pcm last : List ℤ) → last ≡ slice_range pcm 1280 1536 → IsOwn s c i pcm → IsLast s c (i + 1) last
+last_next s c i pcm last same own p below =
     let at : 1536 * (i + 1) + p ≡ 1536 * i + (1536 + p) = omega arith in
     ap (λ l. slice_index_or l p (pos 0)) same
     ∙ (from_range pcm p below
-    ∙ (own_place s i (1536 + p) (1280 + p) pcm (omega arith) (omega arith) lists ∙ sym (ap (sound_at s) at)))
+    ∙ (own_place s c i (1536 + p) (1280 + p) pcm (omega arith) (omega arith) own ∙ sym (ap (sound_at s c) at)))
 
 pub last_bound : (pcm last : List ℤ) → last ≡ slice_range pcm 1280 1536 → Within (2 ^ 23) 1536 pcm → Within (2 ^ 23) 256 last
 last_bound pcm last same within p below =
@@ -75,15 +72,14 @@ last_bound pcm last same within p below =
 
 -- ---- one frame
 
-pub frame_emitted : (rate fscod : ℕ) (s : Sound) (i : ℕ) (result : Result (Unit {0}) Stop) (h now : Held) (frame : List ℕ)
-    → s.fscod ≡ fscod → length frame ≡ 2 * frame_words_of rate fscod i → IsFrame rate fscod i (places s i) frame
-    → Emits frame (frame_line i (length frame)) result h now → FrameLeaves rate s i result h now
-frame_emitted rate fscod s i result h now frame same long is e =
-    let size : length frame ≡ frame_size rate s i = long ∙ ap (λ f. 2 * frame_words_of rate f i) (sym same) in
+pub frame_leaves : (o : Options) (fscod : ℕ) (s : Sound) (i : ℕ) (result : Result (Unit {0}) Broken) (old new : Sinks) (frame : List ℕ)
+    → s.fscod ≡ fscod → IsFrame o.rate fscod i (places s 0 i) frame → Emits frame (frame_line i (length frame)) result old new → FrameLeaves o s i result old new
+frame_leaves o fscod s i result old new frame same is emits =
     record {
       frame = frame;
-      is_frame = subst (λ (f : ℕ). IsFrame rate f i (places s i) frame) (sym same) is;
-      emits = subst (λ (n : ℕ). Emits frame (frame_line i n) result h now) size e;
+      line = frame_line i (length frame);
+      is_frame = record { is_frame = subst (λ (f : ℕ). IsFrame o.rate f i (places s 0 i) frame) (sym same) is; is_line = refl };
+      emits = emits;
     }
 
 -- ---- the frames
@@ -97,26 +93,49 @@ adds_then None b c first second p q = tt
 adds_then (Some before) b c first second p q =
     subst (λ (o : Option (List ℕ)). Adds o c second) p q ∙ ap (λ l. Some l) (append_assoc before first second)
 
-pub no_frames : (rate : ℕ) (s : Sound) (h : Held) → Frames rate s 0 h h
-unfolding IsStream frame_lines
-no_frames rate s h = record { stream = []; is_stream = refl; out = adds_nothing h.out; said = adds_nothing h.said }
+pub no_frames : (o : Options) (s : Sound) (old : Sinks) → Frames o s 0 old old
+unfolding IsStream
+no_frames o s old = record {
+  stream = [];
+  lines = [];
+  is_stream = (refl, refl);
+  output = adds_nothing old.output.bytes;
+  report = adds_nothing old.report.bytes;
+}
 
-pub one_more : (rate : ℕ) (s : Sound) (k : ℕ) (u : Unit {0}) (h between now : Held) → Frames rate s k h between → FrameLeaves rate s k (Ok u) between now → Frames rate s (k + 1) h now
-unfolding IsStream frame_lines
-one_more rate s k u h between now f w =
+pub so_many : (o : Options) (s : Sound) (k count : ℕ) (old new : Sinks) → k ≡ count → Frames o s k old new → Frames o s count old new
+so_many o s k count old new e f = subst (λ (n : ℕ). Frames o s n old new) e f
+
+pub one_more : (o : Options) (s : Sound) (k : ℕ) (u : Unit {0}) (old between new : Sinks) → Frames o s k old between → FrameLeaves o s k (Ok u) between new → Frames o s (k + 1) old new
+unfolding IsStream
+one_more o s k u old between new f w =
     let more : suc k ≡ k + 1 = omega arith in
-    let is_stream : IsStream rate s (suc k) (f.stream ++ w.frame) = (f.stream, w.frame, f.is_stream, w.is_frame, refl) in
-    let said : Adds h.said now.said (frame_lines rate s (suc k)) = adds_then h.said between.said now.said (frame_lines rate s k) (frame_line k (frame_size rate s k)) f.said w.emits.1 in
-    record {
+    so_many o s (suc k) (k + 1) old new more (record {
       stream = f.stream ++ w.frame;
-      is_stream = subst (λ (n : ℕ). IsStream rate s n (f.stream ++ w.frame)) more is_stream;
-      out = adds_then h.out between.out now.out f.stream w.frame f.out w.emits.0;
-      said = subst (λ (n : ℕ). Adds h.said now.said (frame_lines rate s n)) more said;
-    }
+      lines = f.lines ++ w.line;
+      is_stream = (f.stream, w.frame, f.lines, w.line, f.is_stream, w.is_frame, refl, refl);
+      output = adds_then old.output.bytes between.output.bytes new.output.bytes f.stream w.frame f.output w.emits.0;
+      report = adds_then old.report.bytes between.report.bytes new.report.bytes f.lines w.line f.report w.emits.1;
+    })
 
-pub so_many : (rate : ℕ) (s : Sound) (k count : ℕ) (h now : Held) → k ≡ count → Frames rate s k h now → Frames rate s count h now
-so_many rate s k count h now e f = subst (λ (n : ℕ). Frames rate s n h now) e f
+pub stopped : (o : Options) (s : Sound) (count i : ℕ) (broken : Broken) (old between new : Sinks) → i < count → Frames o s i old between
+    → FrameLeaves o s i (Err broken) between new → FramesLeave o s count (Err broken) old new
+stopped o s count i broken old between new below f w = (i, below, (between, f, w))
 
-pub stopped : (rate : ℕ) (s : Sound) (count i : ℕ) (stop : Stop) (h between now : Held) → i < count → Frames rate s i h between
-    → FrameLeaves rate s i (Err stop) between now → FramesLeave rate s count (Err stop) h now
-stopped rate s count i stop h between now below f stops_so = (i, below, (between, f, stops_so))
+-- ---- the last frames
+
+-- the frames of so many samples are no fewer than the full ones
+pub enough : (f r n : ℕ) → n ≡ 1536 * f + r → f ≤ frame_count n
+enough f r n e = elim (cases_eq n 0) [
+  | inl none ↦ omega (arith, none, e)
+  | inr some ↦ subst (λ (b : Bool). f ≤ (if b then 0 else (n + 256 + 1535) / 1536)) (sym (ne_eqb n 0 some)) (omega (arith, e))
+]
+
+-- behind the last sample there are zeros
+pub behind_last : (s : Sound) (c i : ℕ) (row : List ℤ) → ((c' j : ℕ) → s.count ≤ j → s.sample c' j ≡ pos 0) → s.count ≤ 1536 * i → row ≡ replicate 1536 (pos 0) → IsOwn s c i row
+behind_last s c i row silent past zeros t below =
+    ap (λ l. slice_index_or l t (pos 0)) zeros ∙ (get_or-replicate 1536 t (pos 0) (pos 0) below ∙ sym (silent c (1536 * i + t) (omega arith)))
+
+pub zeros_within : (row : List ℤ) (n : ℕ) → row ≡ replicate n (pos 0) → Within (2 ^ 23) n row
+zeros_within row n zeros p below =
+    subst (λ (z : ℤ). unsigned_abs z ≤ 2 ^ 23) (sym (ap (λ l. slice_index_or l p (pos 0)) zeros ∙ get_or-replicate n p (pos 0) (pos 0) below)) (lit≤ tt)

@@ -1,121 +1,174 @@
--- What a run leaves, by its answer: this project's own rules.
-use Rattle.std.specs.Prelude.{◌≡◌, ℕ, Bool, true, false, List, ◌++◌, Option, Some, Err}
+-- What a run leaves, by its command and its answer, and why each answer came: this project's own rules.
+use Rattle.std.specs.Prelude.{◌≡◌, ◌⊎◌, ℕ, ◌+◌, ◌/◌, ◌<◌, min, Bool, true, false, List, [], ◌++◌, length, drop, Some}
+use Rattle.ac_base.specs.Rates.{IsRate}
 use Rattle.ac_io.specs.Outside.{Rose, Adds, AddsFront}
-use Rattle.ac_words.specs.Grammar.{Text, LastWords, Means, encode, InGrammar}
+use Rattle.ac_wav.specs.declared.head.WavHead.{WavHead}
+use Rattle.ac_wav.specs.Form.{IsHead}
+use Rattle.ac_wav.specs.Pieces.{TakesAtMost}
+use Rattle.ac_wav.specs.Whole.{behind}
+use Rattle.ac_words.specs.Grammar.{Text, InGrammar}
+use Rattle.ac_words.specs.Asked.{GivesCommand}
 use Rattle.ac_words.specs.declared.meaning.Command.{Command}
 use Rattle.ac_words.specs.declared.meaning.Command.TheVariants.{Encode}
 use Rattle.ac_words.specs.declared.meaning.Options.{Options}
+use Rattle.ac_app.specs.declared.emit.Broken.{Broken}
 use Rattle.ac_app.specs.declared.status.Status.{Status}
 use Rattle.ac_app.specs.declared.status.Status.TheVariants.{Ok, Usage, BadWav, ReadFault, WriteFault, NoMemory, TooLong}
-use Rattle.ac_app.specs.declared.frames.Stop.{Stop}
-use Rattle.ac_app.specs.declared.frames.Stop.TheVariants as stops
-use Rattle.ac_wav.specs.declared.head.WavHead.{WavHead}
-use Rattle.ac_wav.specs.Whole.{behind}
-use Rattle.ac_app.specs.Input.{limit, IsInput, Refuses, IsTooLong}
+use Rattle.ac_app.specs.Frames.{RoseAt, Frames, Added, AddedFront}
+use Rattle.ac_app.specs.Input.{limit, IsBegun, IsInput, IsRefused, IsTooLong, Lost, samples_in, place_behind}
 use Rattle.ac_app.specs.Lines.{status_line}
-use Rattle.ac_app.specs.Sound.{Sound, sound_of, frames_of}
-use Rattle.ac_app.specs.Stream.{IsStream, frame_lines}
-use Rattle.ac_app.specs.World.{Held, held, Frames, FramesLeave}
+use Rattle.ac_app.specs.Sound.{sound_of, frames_of}
+use Rattle.ac_app.specs.Stream.{IsStream}
+use Rattle.ac_app.specs.World.{Told, World}
 
--- ---- the frames of the sound
+-- ---- faults
 
--- how many calls of the output failed, and how many of the report
-pub record Counts : Type 0 where
-  pub out : ℕ
-  pub said : ℕ
-
-abbrev pub counts : ℕ → ℕ → Counts
-counts out said = record { out = out; said = said }
-
--- the count rose of the sink that stopped the frames
-abbrev pub StopRose : Stop → Counts → Counts → Type 0
-StopRose stops.Output old new = Rose old.out new.out
-StopRose stops.Report old new = Rose old.said new.said
-
--- what writing the frames of a sound leaves: all of them, or those before a write that failed
-abbrev pub StreamLeaves : ℕ → Sound → Status → Counts → Counts → Held → Held → Type 0
-StreamLeaves rate s Ok old new h now = Frames rate s (frames_of s) h now
-StreamLeaves rate s WriteFault old new h now = (stop : Stop) × StopRose stop old new × FramesLeave rate s (frames_of s) (Err stop) h now
-StreamLeaves rate s _ old new h now = ⊥
+-- a fault of reading or of writing comes only where a count of faults rose
+abbrev pub RoseFor : Status → World → World → Type 0
+RoseFor Ok old new = Unit {0}
+RoseFor Usage old new = Unit {0}
+RoseFor (BadWav kind place) old new = Unit {0}
+RoseFor ReadFault old new = Rose old.input.faults new.input.faults
+RoseFor WriteFault old new =
+    Rose old.sinks.output.faults new.sinks.output.faults ⊎ Rose old.sinks.report.faults new.sinks.report.faults
+RoseFor NoMemory old new = Unit {0}
+RoseFor (TooLong most) old new = Unit {0}
 
 -- ---- the command encode
 
--- the source lost the bytes of a mono WAV up to the end of its data, and no others
-abbrev pub Taken : List ℕ → Option (List ℕ) → Type 0
-Taken bytes left = (head : WavHead) × IsInput bytes head × (left ≡ Some (behind head bytes))
+-- all was done: the source lost the bytes up to the end of the data, and all frames were added
+pub record Encodes (o : Options) (bytes : List ℕ) (old new : World) : Type 0 where
+  pub head : WavHead
+  pub input : IsInput bytes head
+  pub left : new.input.bytes ≡ Some (behind head bytes)
+  pub frames : Frames o (sound_of head bytes) (frames_of (sound_of head bytes)) old.sinks new.sinks
 
--- what encode takes of the input: all of its data but for a refusal, which the bytes ask for
-abbrev pub EncodeTakes : Status → List ℕ → Option (List ℕ) → Type 0
-EncodeTakes Ok bytes left = Taken bytes left
-EncodeTakes Usage bytes left = ⊥
-EncodeTakes (BadWav kind place) bytes left = Refuses bytes kind place
-EncodeTakes ReadFault bytes left = Unit {0}
-EncodeTakes WriteFault bytes left = Taken bytes left
-EncodeTakes NoMemory bytes left = Unit {0}
-EncodeTakes (TooLong most) bytes left = IsTooLong bytes × (most ≡ limit)
+-- it stopped before the data: no byte of them was taken, as far as the source tells, and nothing was written
+pub record StopsBefore (bytes : List ℕ) (old new : World) : Type 0 where
+  pub untaken : (head : WavHead) → IsHead bytes head → TakesAtMost bytes head.taken new.input.bytes
+  pub unwritten : new.sinks ≡ old.sinks
 
--- the frames of the sound of a mono WAV
-abbrev pub StreamGives : ℕ → Status → List ℕ → Counts → Counts → Held → Held → Type 0
-StreamGives rate status bytes old new h now = (head : WavHead) × IsInput bytes head × StreamLeaves rate (sound_of head bytes) status old new h now
+-- it stopped in the data, and the first `taken` bytes were lost: exactly the whole frames of the samples in them were added.
+-- The byte behind the limit isn't counted
+pub record StopsIn (o : Options) (bytes : List ℕ) (taken : ℕ) (old new : World) : Type 0 where
+  pub head : WavHead
+  pub begun : IsBegun bytes head
+  pub added : Added o (sound_of head bytes) (samples_in head (min taken limit) / 1536) old.sinks new.sinks
 
--- what encode gives: the frames of the sound, or nothing
-abbrev pub EncodeGives : ℕ → Status → List ℕ → Counts → Counts → Held → Held → Type 0
-EncodeGives rate Ok bytes old new h now = StreamGives rate Ok bytes old new h now
-EncodeGives rate WriteFault bytes old new h now = StreamGives rate WriteFault bytes old new h now
-EncodeGives rate _ bytes old new h now = now ≡ h
+-- a write failed: whole frames were added, and a front of the next or of its line. No byte behind that frame's samples was taken
+pub record Breaks (o : Options) (bytes : List ℕ) (old new : World) : Type 0 where
+  pub head : WavHead
+  pub begun : IsBegun bytes head
+  pub broken : Broken
+  pub rose : RoseAt broken old.sinks new.sinks
+  pub added : AddedFront o (sound_of head bytes) broken old.sinks new.sinks
+  pub fewer : added.count < frames_of (sound_of head bytes)
+  pub left : new.input.bytes ≡ Some (drop (place_behind head bytes (added.count + 1)) bytes)
+
+-- what encode leaves, by its answer, where the source told these bytes
+abbrev pub EncodeLeaves : Options → Status → List ℕ → World → World → Type 0
+EncodeLeaves o Ok bytes old new = Encodes o bytes old new
+EncodeLeaves o Usage bytes old new = ⊥
+EncodeLeaves o (BadWav kind place) bytes old new =
+    StopsBefore bytes old new ⊎ ((new.input.bytes ≡ Some []) × StopsIn o bytes (length bytes) old new)
+EncodeLeaves o ReadFault bytes old new =
+    StopsBefore bytes old new ⊎ ((taken : ℕ) × Lost bytes taken new.input.bytes × StopsIn o bytes taken old new)
+EncodeLeaves o WriteFault bytes old new = Breaks o bytes old new
+EncodeLeaves o NoMemory bytes old new = StopsBefore bytes old new
+EncodeLeaves o (TooLong most) bytes old new =
+    StopsBefore bytes old new ⊎ ((new.input.bytes ≡ Some (drop (limit + 1) bytes)) × StopsIn o bytes (limit + 1) old new)
+
+-- why encode has this answer
+abbrev pub EncodeHasCause : Status → List ℕ → Type 0
+EncodeHasCause Ok bytes = (head : WavHead) × IsInput bytes head
+EncodeHasCause Usage bytes = ⊥
+EncodeHasCause (BadWav kind place) bytes = IsRefused bytes kind place
+EncodeHasCause ReadFault bytes = Unit {0}
+EncodeHasCause WriteFault bytes = (head : WavHead) × IsBegun bytes head
+EncodeHasCause NoMemory bytes = Unit {0}
+EncodeHasCause (TooLong most) bytes = IsTooLong bytes × (most ≡ limit)
+
+-- ---- all commands
+
+-- the numbers of a command are those of the grammar
+abbrev pub IsLawful : Command → Type 0
+IsLawful (Encode o) = IsRate o.rate
+
+abbrev pub CommandLeaves : Command → Status → List ℕ → World → World → Type 0
+CommandLeaves (Encode o) status bytes old new = EncodeLeaves o status bytes old new
+
+abbrev pub CommandHasCause : Command → Status → List ℕ → Type 0
+CommandHasCause (Encode o) status bytes = EncodeHasCause status bytes
 
 -- ---- the job
 
--- the rate that a command asks for
-abbrev pub rate_asked : Command → ℕ
-rate_asked (Encode o) = o.rate
+-- the words ask for an encode with these options
+abbrev pub AsksEncode : List Text → Options → Type 0
+AsksEncode ws o = GivesCommand ws (Encode o)
 
--- the words ask for an encode at this rate
-abbrev pub AsksEncode : List Text → ℕ → Type 0
-AsksEncode ws rate = (o : Options) × (n : LastWords) × Means ws (encode o n) × (rate ≡ o.rate)
+-- the words ask for a command, which leaves this
+abbrev pub WordsLeave : List Text → Status → List ℕ → World → World → Type 0
+WordsLeave ws status bytes old new = (c : Command) × GivesCommand ws c × CommandLeaves c status bytes old new
 
--- why a job has this status, and what it takes of the input
-abbrev pub JobTakes : List Text → Status → List ℕ → Option (List ℕ) → Type 0
-JobTakes ws Usage bytes left = (InGrammar ws → ⊥) × (left ≡ Some bytes)
-JobTakes ws NoMemory bytes left = Unit {0}
-JobTakes ws status bytes left = InGrammar ws × EncodeTakes status bytes left
+-- the words ask for a command, which has a cause of this answer
+abbrev pub WordsHaveCause : List Text → Status → List ℕ → Type 0
+WordsHaveCause ws status bytes = (c : Command) × GivesCommand ws c × CommandHasCause c status bytes
 
--- what a job gives
-abbrev pub JobGives : List Text → Status → List ℕ → Counts → Counts → Held → Held → Type 0
-JobGives ws Usage bytes old new h now = now ≡ h
-JobGives ws NoMemory bytes old new h now = now ≡ h
-JobGives ws status bytes old new h now = (rate : ℕ) × AsksEncode ws rate × EncodeGives rate status bytes old new h now
+-- what a job leaves
+abbrev pub JobLeaves : List Text → Status → List ℕ → World → World → Type 0
+JobLeaves ws Ok bytes old new = WordsLeave ws Ok bytes old new
+JobLeaves ws Usage bytes old new = new ≡ old
+JobLeaves ws (BadWav kind place) bytes old new = WordsLeave ws (BadWav kind place) bytes old new
+JobLeaves ws ReadFault bytes old new = WordsLeave ws ReadFault bytes old new
+JobLeaves ws WriteFault bytes old new = WordsLeave ws WriteFault bytes old new
+JobLeaves ws NoMemory bytes old new = StopsBefore bytes old new
+JobLeaves ws (TooLong most) bytes old new = WordsLeave ws (TooLong most) bytes old new
+
+-- why a job, and a run, has this answer
+abbrev pub HasCause : List Text → Status → List ℕ → Type 0
+HasCause ws Ok bytes = WordsHaveCause ws Ok bytes
+HasCause ws Usage bytes = InGrammar ws → ⊥
+HasCause ws (BadWav kind place) bytes = WordsHaveCause ws (BadWav kind place) bytes
+HasCause ws ReadFault bytes = WordsHaveCause ws ReadFault bytes
+HasCause ws WriteFault bytes = WordsHaveCause ws WriteFault bytes
+HasCause ws NoMemory bytes = Unit {0}
+HasCause ws (TooLong most) bytes = WordsHaveCause ws (TooLong most) bytes
 
 -- ---- the run: a job, and then its status line
 
--- a line was written whole, or a front of it
-abbrev pub Tail : Bool → Option (List ℕ) → Option (List ℕ) → List ℕ → Type 0
-Tail true before said line = Adds before said line
-Tail false before said line = AddsFront before said line
+-- a line was written whole, or a front of it where the report failed
+abbrev pub Tail : Bool → Told → Told → List ℕ → Type 0
+Tail true old new line = Adds old.bytes new.bytes line
+Tail false old new line = AddsFront old.bytes new.bytes line × Rose old.faults new.faults
 
 -- a status line that could not be written turns Ok into WriteFault
 abbrev pub answer_of : Status → Bool → Status
 answer_of Ok false = WriteFault
 answer_of status _ = status
 
--- what a run gives, where the source tells its bytes: the status line is cut only where a call of the report failed
-pub record RunGives (ws : List Text) (result : Status) (bytes : List ℕ) (old new : Counts) (h now : Held) : Type 0 where
+-- what a run leaves, where the source told these bytes: what its job leaves, and then the status line
+pub record RunLeaves (ws : List Text) (result : Status) (bytes : List ℕ) (old new : World) : Type 0 where
   pub status : Status
   pub whole : Bool
   pub answer : result ≡ answer_of status whole
-  pub before : Option (List ℕ)
-  pub job : JobGives ws status bytes old new h (held now.out before)
-  pub line : Tail whole before now.said (status_line status)
-  pub cut : whole ≡ false → Rose old.said new.said
+  pub between : Told
+  pub job : JobLeaves ws status bytes old (record new { sinks = record new.sinks { report = between } })
+  pub line : Tail whole between new.sinks.report (status_line status)
 
--- all is done: the frames of the sound, their lines, and the status line
-pub record IsDone (ws : List Text) (bytes : List ℕ) (left_now : Option (List ℕ)) (h now : Held) : Type 0 where
-  pub rate : ℕ
-  pub asks : AsksEncode ws rate
+-- all is done that encode was asked for: the frames of the sound, their lines, and the status line
+pub record IsEncoded (o : Options) (bytes : List ℕ) (old new : World) : Type 0 where
   pub head : WavHead
   pub input : IsInput bytes head
-  pub left : left_now ≡ Some (behind head bytes)
+  pub left : new.input.bytes ≡ Some (behind head bytes)
   pub stream : List ℕ
-  pub is_stream : IsStream rate (sound_of head bytes) (frames_of (sound_of head bytes)) stream
-  pub out : Adds h.out now.out stream
-  pub said : Adds h.said now.said (frame_lines rate (sound_of head bytes) (frames_of (sound_of head bytes)) ++ status_line Ok)
+  pub lines : List ℕ
+  pub is_stream : IsStream o (sound_of head bytes) (frames_of (sound_of head bytes)) stream lines
+  pub output : Adds old.sinks.output.bytes new.sinks.output.bytes stream
+  pub report : Adds old.sinks.report.bytes new.sinks.report.bytes (lines ++ status_line Ok)
+
+abbrev pub CommandIsDone : Command → List ℕ → World → World → Type 0
+CommandIsDone (Encode o) bytes old new = IsEncoded o bytes old new
+
+-- all is done that the words ask for
+abbrev pub IsDone : List Text → List ℕ → World → World → Type 0
+IsDone ws bytes old new = (c : Command) × GivesCommand ws c × CommandIsDone c bytes old new

@@ -1,26 +1,37 @@
--- The sound of one channel, and the places of it that are transformed.
-use Rattle.std.specs.Prelude.{◌≡◌, ℕ, ◌+◌, ◌-◌, ◌/◌, ◌==◌, nat_lt, if◌then◌else◌, List, length, slice_index_or, ℤ, pos}
+-- The sound of up to six channels, and the places of it that are transformed.
+use Rattle.std.specs.Prelude.{◌≡◌, ℕ, ◌+◌, ◌-◌, ◌/◌, ◌<◌, ◌==◌, nat_lt, if◌then◌else◌, Bool, List, ℤ, pos}
 use Rattle.ac_wav.specs.declared.head.WavHead.{WavHead}
 use Rattle.ac_wav.specs.Samples.{sample_count, sample_at}
 
--- fscod of its sampling rate (A/52 5.4.1.3), its number of samples, and sample j, of 24 bits and 0 behind the last
+-- fscod of its sampling rate (A/52 5.4.1.3), its layout (A/52 5.4.2.3 and 5.4.2.7), its number of samples of each channel, and
+-- sample j of coded channel c, of 24 bits and 0 behind the last
 pub record Sound : Type 0 where
   pub fscod : ℕ
+  pub acmod : ℕ
+  pub lfe : Bool
   pub count : ℕ
-  pub sample : ℕ → ℤ
+  pub sample : ℕ → ℕ → ℤ
 
--- the first coded channel of a WAV with this head
+-- that of a WAV with this head
 abbrev pub sound_of : WavHead → List ℕ → Sound
-sound_of head bytes = record { fscod = head.fscod; count = sample_count head bytes; sample = sample_at head bytes 0 }
+sound_of head bytes = record {
+  fscod = head.fscod;
+  acmod = head.acmod;
+  lfe = head.lfe;
+  count = sample_count head bytes;
+  sample = sample_at head bytes;
+}
 
--- these are all samples of the sound
-pub record AreSamples (s : Sound) (samples : List ℤ) : Type 0 where
-  pub count : length samples ≡ s.count
-  pub each : (j : ℕ) → slice_index_or samples j (pos 0) ≡ s.sample j
+-- the other sound has the rate and the layout of this, and its first n samples of each channel
+pub record Continues (x : Sound) (n : ℕ) (y : Sound) : Type 0 where
+  pub fscod : y.fscod ≡ x.fscod
+  pub acmod : y.acmod ≡ x.acmod
+  pub lfe : y.lfe ≡ x.lfe
+  pub samples : (c j : ℕ) → j < n → y.sample c j ≡ x.sample c j
 
--- place p of the sound that is transformed: 256 zeros, this project's own choice, and then the samples
-unfoldable pub sound_at : Sound → ℕ → ℤ
-sound_at s p = if nat_lt p 256 then pos 0 else s.sample (p - 256)
+-- place p of channel c that is transformed: 256 zeros, this project's own choice, and then the samples
+unfoldable pub sound_at : Sound → ℕ → ℕ → ℤ
+sound_at s c p = if nat_lt p 256 then pos 0 else s.sample c (p - 256)
 
 -- the number of frames for n samples, this project's own choice: each has the 1,536 places of six blocks (A/52 5.3), and
 -- the last sample stands in two transforms

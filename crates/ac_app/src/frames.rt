@@ -1,143 +1,186 @@
-//! The loop over the frames: its samples are taken, the frame is written, and its line is reported.
-ghost use Rattle.std.specs.Prelude.{replicate, slice_range, ◌≡◌, ℕ, ◌+◌, ◌*◌, ◌^◌, ◌<◌, ◌≤◌, List, ◌++◌, take, drop, length, Option, Some, Result, Ok, Err, OnOk, OnErr, IfErr, IsErrOf, ℤ, pos};
-ghost use Rattle.ac_base.specs.Sigma.{Within};
-ghost use Rattle.ac_base.specs.Sigma.{Lists};
-ghost use Rattle.ac_io.specs.Outside.{Rose};
+//! The loop over the frames: each frame's samples are read, and it is written and reported before the next is read.
+ghost use Rattle.std.specs.Prelude.{◌≡◌, ℕ, ◌+◌, ◌*◌, ◌^◌, ◌<◌, ◌≤◌, List, replicate, pos, Some, IfOk, IfErr, MatchResult};
 ghost use Rattle.ac_base.specs.Rates.{IsRate};
-ghost use Rattle.ac_enc.specs.Frame.{IsFrame};
-ghost use Rattle.ac_base.specs.Sizes.{frame_words_of};
-ghost use Rattle.ac_app.specs.Sound.{Sound, AreSamples};
-ghost use Rattle.ac_app.specs.Stream.{places, frame_size};
-ghost use Rattle.ac_app.specs.declared.frames.Stop.TheVariants as stops;
-ghost use Rattle.ac_app.specs.Lines.{frame_line};
-ghost use Rattle.ac_app.specs.World.{held, Emits, IsLast, FrameLeaves, FramesLeave};
+ghost use Rattle.ac_base.specs.Sigma.{Within};
+ghost use Rattle.ac_wav.specs.Form.{IsOfProfile};
+ghost use Rattle.ac_wav.specs.Pieces.{TakesAtMost};
+ghost use Rattle.ac_wav.specs.Refusal.{HeadRead};
+ghost use Rattle.ac_app.specs.Frames.{RoseAt, Frames, FramesLeave, first_row};
+ghost use Rattle.ac_app.specs.Input.{limit, IsMono};
+ghost use Rattle.ac_app.specs.Loop.{EndsWith, AllRead, StopLeaves, StopRose};
+ghost use Rattle.ac_app.specs.Run.{Encodes};
+ghost use Rattle.ac_app.specs.Sound.{Sound, frame_count, frames_of};
+ghost use Rattle.ac_app.specs.World.{Sinks, sinks, SinksNeverFall, world, NeverFalls};
 
-use crate::lines;
-use crate::sound::own_samples;
-use ac_enc::encode_frame;
-use ac_io::Sink;
+use crate::emit::Broken;
+use crate::frame::frame;
+use crate::work::{Work, clear};
+use ac_io::{Sink, Source};
+use ac_wav::{WavBody, WavFault, WavHead};
+use ac_words::Options;
+
+/// The most bytes of an input that are read, but for one byte behind them.
+pub const LIMIT: u64 = (1 << 32) + (1 << 20);
 
 /// Why the frames stopped.
 #[derive(Clone, Copy, Debug, PartialEq, Eq)]
 pub enum Stop {
-    Output,
-    Report,
+    /// The input is refused, goes on past the limit, or failed.
+    Input(WavFault),
+    /// A sink failed.
+    Sink(Broken),
 }
 
-/// Writes a frame and reports it.
-fn emit<O: Sink, N: Sink>(i: u32, frame: &[u8], output: &mut O, report: &mut N) -> Result<(), Stop>
-    ensures leaves { Emits frame.now (frame_line i (length frame.now)) result (held (O.held output.old) (N.held report.old)) (held (O.held output.new) (N.held report.new)) }
-    ensures output { IsErrOf result Stop.Output → Rose (O.faults output.old) (O.faults output.new) }
-    ensures report { IsErrOf result Stop.Report → Rose (N.faults report.old) (N.faults report.new) }
-    ensures output_count { O.faults output.old ≤ O.faults output.new }
-    ensures report_count { N.faults report.old ≤ N.faults report.new }
-{
-    if output.write(frame).is_err() {
-        return Err(Stop::Output);
+impl From<WavFault> for Stop {
+    ghost use Rattle.ac_app.specs.declared.frames.Stop.TheVariants.{Input};
+
+    ghost from_gives = { λ fault e. e ≡ Input fault };
+
+    fn from(fault: WavFault) -> Stop {
+        Stop::Input(fault)
     }
-    let line = lines::frame(i, frame.len());
-    if report.write(line.as_bytes()).is_err() {
-        return Err(Stop::Report);
+}
+
+impl From<Broken> for Stop {
+    ghost use Rattle.ac_app.specs.declared.frames.Stop.TheVariants.{Sink};
+
+    ghost from_gives = { λ broken e. e ≡ Sink broken };
+
+    fn from(broken: Broken) -> Stop {
+        Stop::Sink(broken)
+    }
+}
+
+/// What was read when the data ended: so many frames that are full, and behind them fewer than 1,536 samples of each channel.
+#[derive(Clone, Copy)]
+struct Read {
+    frames: u32,
+    rest: usize,
+}
+
+/// Reads the frames that are full, and encodes, writes and reports each before it reads the next. The samples behind them stand
+/// in the rows in the end.
+fn full_frames<S: Source, O: Sink, N: Sink>(
+    options: Options,
+    head: &WavHead,
+    work: &mut Work,
+    input: &mut S,
+    output: &mut O,
+    report: &mut N,
+) -> Result<Read, Stop>
+    requires rate { IsRate options.rate }
+    requires profile { IsOfProfile head.now }
+    requires mono { IsMono head.now }
+    requires within { head.now.taken ≤ limit }
+    requires silent { work.old.last ≡ replicate 256 (pos 0) }
+    ensures told { (bytes : List ℕ) → HeadRead bytes limit head.now (S.left input.old) → MatchResult result
+        (λ read. AllRead options bytes head.now read work.new
+            (world S.left S.faults O.held O.faults N.held N.faults input.old output.old report.old)
+            (world S.left S.faults O.held O.faults N.held N.faults input.new output.new report.new))
+        (λ stop. StopLeaves options stop bytes
+            (world S.left S.faults O.held O.faults N.held N.faults input.old output.old report.old)
+            (world S.left S.faults O.held O.faults N.held N.faults input.new output.new report.new)) }
+    ensures count { IfOk result (λ read. (read.frames < 2 ^ 31) × (read.rest < 1536)) }
+    ensures row { IfOk result (λ _. Within (2 ^ 23) 1536 (first_row work.new)) }
+    ensures bound { Within (2 ^ 23) 256 work.new.last }
+    ensures most_read { (bytes : List ℕ) → HeadRead bytes limit head.now (S.left input.old) → TakesAtMost bytes (limit + 1) (S.left input.new) }
+    ensures rose { IfErr result (λ stop. StopRose stop
+        (world S.left S.faults O.held O.faults N.held N.faults input.old output.old report.old)
+        (world S.left S.faults O.held O.faults N.held N.faults input.new output.new report.new)) }
+    ensures never_falls { NeverFalls
+        (world S.left S.faults O.held O.faults N.held N.faults input.old output.old report.old)
+        (world S.left S.faults O.held O.faults N.held N.faults input.new output.new report.new) }
+{
+    let mut body = WavBody::new(head, LIMIT);
+    let mut frames = 0;
+    loop {
+        let rest = body.samples(input, &mut work.rows)?;
+        if rest < 1536 {
+            return Ok(Read { frames, rest });
+        }
+        frame(options, head.fscod, frames, work, output, report)?;
+        frames += 1;
+    }
+}
+
+/// The number of frames for this many samples of each channel: none for none, and else as many as hold the samples and the
+/// 256 places before them.
+fn frames_for(samples: u64) -> u32
+    requires { samples < 2 ^ 42 }
+    ensures { result ≡ frame_count samples }
+{
+    if samples == 0 {
+        return 0;
+    }
+    ((samples + 256 + 1535) / 1536) as u32
+}
+
+/// The frames behind those that are full: none where there was no sample, and else one, or two where the samples of the first
+/// reach into its last 256 places.
+fn last_frames<O: Sink, N: Sink>(
+    options: Options,
+    fscod: u8,
+    read: Read,
+    work: &mut Work,
+    output: &mut O,
+    report: &mut N,
+) -> Result<(), Broken>
+    requires rate { IsRate options.rate }
+    requires sampling { fscod ≤ 2 }
+    requires frames { read.frames < 2 ^ 31 }
+    requires rest { read.rest < 1536 }
+    requires last { Within (2 ^ 23) 256 work.old.last }
+    requires row { Within (2 ^ 23) 1536 (first_row work.old) }
+    ensures told { (s : Sound) (start : Sinks) → EndsWith s fscod read work.old
+        → Frames options s read.frames start (sinks O.held O.faults N.held N.faults output.old report.old)
+        → FramesLeave options s (frames_of s) result start (sinks O.held O.faults N.held N.faults output.new report.new) }
+    ensures rose { IfErr result (λ broken. RoseAt broken
+        (sinks O.held O.faults N.held N.faults output.old report.old) (sinks O.held O.faults N.held N.faults output.new report.new)) }
+    ensures never_falls { SinksNeverFall
+        (sinks O.held O.faults N.held N.faults output.old report.old) (sinks O.held O.faults N.held N.faults output.new report.new) }
+{
+    let count = frames_for(1536 * u64::from(read.frames) + read.rest as u64);
+    for i in read.frames..count {
+        frame(options, fscod, i, work, output, report)?;
+        clear(work);
     }
     Ok(())
 }
 
-/// The last 256 samples of a frame.
-fn keep_last(pcm: &[i32; 1536], last: &mut [i32; 256])
-    ensures { last.new ≡ slice_range pcm.now 1280 1536 }
-{
-    last.copy_from_slice(&pcm[1280..]);
-}
-
-/// Which frame of which stream is written.
-#[derive(Clone, Copy)]
-pub struct Pace {
-    /// The bit rate in kbit/s.
-    pub rate: u16,
-    /// fscod of the sampling rate.
-    pub fscod: u8,
-}
-
-/// Frame `i`, of its samples behind the last ones, which become those of the next.
-fn encode(
-    pace: Pace,
-    i: u32,
-    last: &mut [i32; 256],
-    pcm: &[i32; 1536],
-    out: &mut [u8; 3840],
-) -> usize
-    requires rate { IsRate pace.rate }
-    requires sampling { pace.fscod ≤ 2 }
-    requires last { Within (2 ^ 23) 256 last.old }
-    requires pcm { Within (2 ^ 23) 1536 pcm.now }
-    ensures most { result ≤ 3840 }
-    ensures long { length (take result out.new) ≡ 2 * frame_words_of pace.rate pace.fscod i }
-    ensures frame { (s : Sound) → s.fscod ≡ pace.fscod → IsLast s i last.old → Lists 1536 (λ t. s.sample (1536 * i + t)) pcm.now
-        → IsFrame pace.rate pace.fscod i (places s i) (take result out.new) × IsLast s (i + 1) last.new }
-    ensures bound { Within (2 ^ 23) 256 last.new }
-{
-    let size = encode_frame(pace.rate, pace.fscod, u64::from(i), last, pcm, out);
-    keep_last(pcm, last);
-    size
-}
-
-/// Writes and reports frame `i`.
-fn frame<O: Sink, N: Sink>(
-    pace: Pace,
-    i: u32,
-    last: &mut [i32; 256],
-    samples: &[i32],
+/// Reads the samples behind a head, a frame's at a time, and encodes, writes and reports each frame before it reads the next.
+///
+/// # Errors
+///
+/// `Input` where the samples are refused or a read failed, `Sink` where a write failed.
+pub fn frames<S: Source, O: Sink, N: Sink>(
+    options: Options,
+    head: &WavHead,
+    work: &mut Work,
+    input: &mut S,
     output: &mut O,
     report: &mut N,
 ) -> Result<(), Stop>
-    requires rate { IsRate pace.rate }
-    requires sampling { pace.fscod ≤ 2 }
-    requires last { Within (2 ^ 23) 256 last.old }
-    requires samples { Within (2 ^ 23) (length samples.now) samples.now }
-    ensures leaves { (s : Sound) → s.fscod ≡ pace.fscod → AreSamples s samples.now → IsLast s i last.old
-        → FrameLeaves pace.rate s i result (held (O.held output.old) (N.held report.old)) (held (O.held output.new) (N.held report.new)) }
-    ensures next { (s : Sound) → s.fscod ≡ pace.fscod → AreSamples s samples.now → IsLast s i last.old → IsLast s (i + 1) last.new }
-    ensures bound { Within (2 ^ 23) 256 last.new }
-    ensures output { IsErrOf result Stop.Output → Rose (O.faults output.old) (O.faults output.new) }
-    ensures report { IsErrOf result Stop.Report → Rose (N.faults report.old) (N.faults report.new) }
-    ensures output_count { O.faults output.old ≤ O.faults output.new }
-    ensures report_count { N.faults report.old ≤ N.faults report.new }
+    requires rate { IsRate options.rate }
+    requires profile { IsOfProfile head.now }
+    requires mono { IsMono head.now }
+    requires within { head.now.taken ≤ limit }
+    requires silent { work.old.last ≡ replicate 256 (pos 0) }
+    ensures told { (bytes : List ℕ) → HeadRead bytes limit head.now (S.left input.old) → MatchResult result
+        (λ _. Encodes options bytes
+            (world S.left S.faults O.held O.faults N.held N.faults input.old output.old report.old)
+            (world S.left S.faults O.held O.faults N.held N.faults input.new output.new report.new))
+        (λ stop. StopLeaves options stop bytes
+            (world S.left S.faults O.held O.faults N.held N.faults input.old output.old report.old)
+            (world S.left S.faults O.held O.faults N.held N.faults input.new output.new report.new)) }
+    ensures most_read { (bytes : List ℕ) → HeadRead bytes limit head.now (S.left input.old) → TakesAtMost bytes (limit + 1) (S.left input.new) }
+    ensures rose { IfErr result (λ stop. StopRose stop
+        (world S.left S.faults O.held O.faults N.held N.faults input.old output.old report.old)
+        (world S.left S.faults O.held O.faults N.held N.faults input.new output.new report.new)) }
+    ensures never_falls { NeverFalls
+        (world S.left S.faults O.held O.faults N.held N.faults input.old output.old report.old)
+        (world S.left S.faults O.held O.faults N.held N.faults input.new output.new report.new) }
 {
-    let mut pcm = [0; 1536];
-    own_samples(samples, i, &mut pcm);
-    let mut out = [0; 3840];
-    let size = encode(pace, i, last, &pcm, &mut out);
-    emit(i, &out[..size], output, report)
-}
-
-/// The 256 zeros before the first sample.
-fn silence() -> [i32; 256]
-    ensures { result ≡ replicate 256 (pos 0) }
-{
-    [0; 256]
-}
-
-/// Goes over `count` frames of these samples, one at a time.
-pub fn frames<O: Sink, N: Sink>(
-    pace: Pace,
-    count: u32,
-    samples: &[i32],
-    output: &mut O,
-    report: &mut N,
-) -> Result<(), Stop>
-    requires rate { IsRate pace.rate }
-    requires sampling { pace.fscod ≤ 2 }
-    requires samples { Within (2 ^ 23) (length samples.now) samples.now }
-    ensures leaves { (s : Sound) → s.fscod ≡ pace.fscod → AreSamples s samples.now
-        → FramesLeave pace.rate s count result (held (O.held output.old) (N.held report.old)) (held (O.held output.new) (N.held report.new)) }
-    ensures output { IsErrOf result Stop.Output → Rose (O.faults output.old) (O.faults output.new) }
-    ensures report { IsErrOf result Stop.Report → Rose (N.faults report.old) (N.faults report.new) }
-    ensures output_count { O.faults output.old ≤ O.faults output.new }
-    ensures report_count { N.faults report.old ≤ N.faults report.new }
-{
-    let mut last = silence();
-    for i in 0..count {
-        frame(pace, i, &mut last, samples, output, report)?;
-    }
+    let read = full_frames(options, head, work, input, output, report)?;
+    last_frames(options, head.fscod, read, work, output, report)?;
     Ok(())
 }

@@ -1,14 +1,15 @@
 //! The top call: all that the program does, over a source and two sinks.
 #![tactic(auto)]
 
+mod emit;
 mod encode;
+mod frame;
 mod frames;
-mod input;
 mod law;
 mod lines;
-mod sound;
 mod status;
 mod top;
+mod work;
 
 pub use ac_io::{
     Failed, MemSink, MemSource, NullSink, Sink, Source, StdSink, StdSource, SureSource,

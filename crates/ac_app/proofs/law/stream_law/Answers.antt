@@ -1,12 +1,11 @@
-use Rattle.std.proofs.Common.{sym}
-use Rattle.ac_app.proofs.Laws.{size, one_stream, front, frame_at, told}
+use Rattle.ac_app.proofs.Laws.{size, split, frame_in, heads, told, turned}
 use Rattle.ac_app.proofs.law.stream_law.Goals as goal
 
 pub returns : goal.returns
 returns c = record {
-  one = one_stream;
   size = size;
-  front = front;
-  frame = frame_at;
-  told = λ rate k x y s e same. (told rate k x y s e same, told rate k y x s (sym e) (λ j. sym (same j)));
+  front = λ o k more x stream lines p. let f = split o k more x stream lines p in (f.front, f.said, f.back, f.later, f.is, f.stream, f.report);
+  frame = frame_in;
+  heads = heads;
+  told = λ o k x y stream lines same. (told o k x y stream lines same, told o k y x stream lines (turned x y _ same));
 }

@@ -1,0 +1,79 @@
+-- What the frames of a sound leave in the output and the report: this project's own rules, over the sync frames of A/52 5.3.
+use Rattle.std.specs.Prelude.{◌≡◌, ℕ, ◌+◌, ◌*◌, ◌<◌, List, [], slice_index_or, Result, Ok, Err, ℤ}
+use Rattle.ac_base.specs.Sigma.{Lists}
+use Rattle.ac_io.specs.Outside.{Rose, Adds, AddsFront}
+use Rattle.ac_words.specs.declared.meaning.Options.{Options}
+use Rattle.ac_app.specs.Sound.{Sound, Continues}
+use Rattle.ac_app.specs.Stream.{places, IsFrameAt, IsStream}
+use Rattle.ac_app.specs.World.{Sinks}
+use Rattle.ac_app.specs.declared.emit.Broken.{Broken}
+use Rattle.ac_app.specs.declared.emit.Broken.TheVariants as sinks
+use Rattle.ac_app.specs.declared.work.Work.{Work}
+
+-- ---- one frame
+
+-- the count rose of the sink that failed
+abbrev pub RoseAt : Broken → Sinks → Sinks → Type 0
+RoseAt sinks.Output old new = Rose old.output.faults new.output.faults
+RoseAt sinks.Report old new = Rose old.report.faults new.report.faults
+
+-- what writing a frame and then its line leaves: where the output failed, a front of the frame and no line
+abbrev pub Emits : List ℕ → List ℕ → Result (Unit {0}) Broken → Sinks → Sinks → Type 0
+Emits frame line (Ok _) old new = Adds old.output.bytes new.output.bytes frame × Adds old.report.bytes new.report.bytes line
+Emits frame line (Err sinks.Output) old new = AddsFront old.output.bytes new.output.bytes frame × (new.report ≡ old.report)
+Emits frame line (Err sinks.Report) old new = Adds old.output.bytes new.output.bytes frame × AddsFront old.report.bytes new.report.bytes line
+
+-- what frame i leaves: it and its line were written, or fronts of them
+pub record FrameLeaves (o : Options) (s : Sound) (i : ℕ) (result : Result (Unit {0}) Broken) (old new : Sinks) : Type 0 where
+  pub frame : List ℕ
+  pub line : List ℕ
+  pub is_frame : IsFrameAt o s i frame line
+  pub emits : Emits frame line result old new
+
+-- the 256 places of channel c before those of frame i
+abbrev pub IsLast : Sound → ℕ → ℕ → List ℤ → Type 0
+IsLast s c i last = Lists 256 (places s c i) last
+
+-- the 1,536 samples of channel c in frame i
+abbrev pub IsOwn : Sound → ℕ → ℕ → List ℤ → Type 0
+IsOwn s c i row = Lists 1536 (λ t. s.sample c (1536 * i + t)) row
+
+-- the samples in the first row
+abbrev pub first_row : Work → List ℤ
+first_row work = slice_index_or work.rows 0 []
+
+-- ---- the frames
+
+-- the first k frames of the sound, and their lines, were added
+pub record Frames (o : Options) (s : Sound) (k : ℕ) (old new : Sinks) : Type 0 where
+  pub stream : List ℕ
+  pub lines : List ℕ
+  pub is_stream : IsStream o s k stream lines
+  pub output : Adds old.output.bytes new.output.bytes stream
+  pub report : Adds old.report.bytes new.report.bytes lines
+
+-- all frames, or the first k and a front of the next
+abbrev pub FramesLeave : Options → Sound → ℕ → Result (Unit {0}) Broken → Sinks → Sinks → Type 0
+FramesLeave o s count (Ok _) old new = Frames o s count old new
+FramesLeave o s count (Err broken) old new = (k : ℕ) × (k < count) × ((between : Sinks)
+    × Frames o s k old between × FrameLeaves o s k (Err broken) between new)
+
+-- ---- the frames of every sound that continues what was read
+
+-- the first k frames were added of every sound that continues the samples of these frames
+pub record Added (o : Options) (x : Sound) (k : ℕ) (old new : Sinks) : Type 0 where
+  pub stream : List ℕ
+  pub lines : List ℕ
+  pub are : (s : Sound) → Continues x (1536 * k) s → IsStream o s k stream lines
+  pub output : Adds old.output.bytes new.output.bytes stream
+  pub report : Adds old.report.bytes new.report.bytes lines
+
+-- the first k frames were added so, and a front of the next or of its line
+pub record AddedFront (o : Options) (x : Sound) (broken : Broken) (old new : Sinks) : Type 0 where
+  pub count : ℕ
+  pub between : Sinks
+  pub added : Added o x count old between
+  pub frame : List ℕ
+  pub line : List ℕ
+  pub is_frame : (s : Sound) → Continues x (1536 * (count + 1)) s → IsFrameAt o s count frame line
+  pub emits : Emits frame line (Err broken) between new

@@ -1,0 +1,56 @@
+-- What the loop over the frames of an input leaves, and why it stopped: this project's own rules.
+use Rattle.std.specs.Prelude.{◌≡◌, ℕ, ◌+◌, ◌*◌, ◌≤◌, List, [], length, drop, Some, pos}
+use Rattle.ac_io.specs.Outside.{Rose}
+use Rattle.ac_wav.specs.declared.fault.WavFault.{WavFault}
+use Rattle.ac_wav.specs.declared.fault.WavFault.TheVariants as wav
+use Rattle.ac_wav.specs.declared.head.WavHead.{WavHead}
+use Rattle.ac_wav.specs.Whole.{behind, EndsWithin}
+use Rattle.ac_words.specs.declared.meaning.Options.{Options}
+use Rattle.ac_app.specs.declared.frames.Read.{Read}
+use Rattle.ac_app.specs.declared.frames.Stop.{Stop}
+use Rattle.ac_app.specs.declared.frames.Stop.TheVariants as stops
+use Rattle.ac_app.specs.declared.status.Status.{Status}
+use Rattle.ac_app.specs.declared.status.Status.TheVariants as statuses
+use Rattle.ac_app.specs.declared.work.Work.{Work}
+use Rattle.ac_app.specs.Frames.{RoseAt, Frames, IsLast, IsOwn, first_row}
+use Rattle.ac_app.specs.Input.{limit, IsRefused, IsTooLong, Lost}
+use Rattle.ac_app.specs.Run.{StopsIn, Breaks}
+use Rattle.ac_app.specs.Sound.{Sound, sound_of}
+use Rattle.ac_app.specs.World.{World}
+
+-- the sound ends with what was read: so many frames are full, and the samples behind them stand in the first row
+pub record EndsWith (s : Sound) (fscod : ℕ) (read : Read) (work : Work) : Type 0 where
+  pub fscod_is : s.fscod ≡ fscod
+  pub count : s.count ≡ 1536 * read.frames + read.rest
+  pub silent : (c j : ℕ) → s.count ≤ j → s.sample c j ≡ pos 0
+  pub last : IsLast s 0 read.frames work.last
+  pub row : IsOwn s 0 read.frames (first_row work)
+
+-- the data ended within the limit, and the full frames were added
+pub record AllRead (o : Options) (bytes : List ℕ) (head : WavHead) (read : Read) (work : Work) (old new : World) : Type 0 where
+  pub wav : EndsWithin bytes head limit
+  pub left : new.input.bytes ≡ Some (behind head bytes)
+  pub ends : EndsWith (sound_of head bytes) head.fscod read work
+  pub frames : Frames o (sound_of head bytes) read.frames old.sinks new.sinks
+
+-- why the frames stopped, and what they leave then
+abbrev pub StopLeaves : Options → Stop → List ℕ → World → World → Type 0
+StopLeaves o (stops.Input (wav.Bad kind place)) bytes old new =
+    IsRefused bytes kind place × (new.input.bytes ≡ Some []) × StopsIn o bytes (length bytes) old new
+StopLeaves o (stops.Input wav.ReadFault) bytes old new = (taken : ℕ) × Lost bytes taken new.input.bytes × StopsIn o bytes taken old new
+StopLeaves o (stops.Input wav.TooLong) bytes old new =
+    IsTooLong bytes × (new.input.bytes ≡ Some (drop (limit + 1) bytes)) × StopsIn o bytes (limit + 1) old new
+StopLeaves o (stops.Sink broken) bytes old new = Breaks o bytes old new
+
+-- a fault of reading or of writing comes only where the count of faults rose
+abbrev pub StopRose : Stop → World → World → Type 0
+StopRose (stops.Input (wav.Bad kind place)) old new = Unit {0}
+StopRose (stops.Input wav.ReadFault) old new = Rose old.input.faults new.input.faults
+StopRose (stops.Input wav.TooLong) old new = Unit {0}
+StopRose (stops.Sink broken) old new = RoseAt broken old.sinks new.sinks
+
+-- the status of an input that wasn't read
+abbrev pub unread_status : WavFault → Status
+unread_status (wav.Bad kind place) = statuses.BadWav kind place
+unread_status wav.ReadFault = statuses.ReadFault
+unread_status wav.TooLong = statuses.TooLong limit
