@@ -12,7 +12,7 @@ use Rattle.ac_wav.specs.declared.body.WavBody.{WavBody}
 use Rattle.ac_wav.specs.declared.head.WavHead.{WavHead}
 use Rattle.ac_wav.specs.Layout.{channel_count}
 use Rattle.ac_wav.specs.Form.{IsHead, IsOfProfile}
-use Rattle.ac_wav.specs.Pieces.{IsAt}
+use Rattle.ac_io.specs.Within.{IsAt}
 use Rattle.ac_wav.specs.Refusal.{HeadRead}
 use Rattle.ac_wav.specs.Body.{head_in, taken_by, IsBehind}
 use Rattle.ac_wav.specs.Samples.{width_of, align_of, value_of, offset_of, sample_count, sample_in, sample_at, SamplesRead, IsUnsampled}

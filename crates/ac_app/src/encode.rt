@@ -3,7 +3,7 @@ ghost use Rattle.std.specs.Prelude.{◌≡◌, ◌≢◌, ◌⊎◌, ℕ, ◌+�
 ghost use Rattle.ac_base.specs.Sigma.{Within};
 ghost use Rattle.ac_io.specs.Outside.{Rose};
 ghost use Rattle.ac_base.specs.Rates.{IsRate};
-ghost use Rattle.ac_wav.specs.Pieces.{TakesAtMost};
+ghost use Rattle.ac_io.specs.Within.{TakesAtMost};
 ghost use Rattle.ac_app.specs.Input.{limit};
 ghost use Rattle.ac_app.specs.Sound.{Sound, AreSamples};
 ghost use Rattle.ac_app.specs.World.{held};

@@ -3,7 +3,7 @@ ghost use Rattle.std.specs.Prelude.{◌≡◌, ℕ, ◌+◌, ◌-◌, ◌<◌, �
 ghost use Rattle.ac_base.specs.Sigma.{Within};
 ghost use Rattle.ac_io.specs.Outside.{Rose};
 ghost use Rattle.ac_wav.specs.Form.{IsOfProfile};
-ghost use Rattle.ac_wav.specs.Pieces.{TakesAtMost};
+ghost use Rattle.ac_io.specs.Within.{TakesAtMost};
 ghost use Rattle.ac_wav.specs.Refusal.{HeadRead};
 ghost use Rattle.ac_app.specs.Input.{limit, IsMono, HasRead, IsStopped, AllRead};
 ghost use Rattle.ac_app.specs.declared.input.Fault.TheVariants as faults;

@@ -70,7 +70,7 @@ impl Sink for MemSink {
 
     fn write(&mut self, piece: &[u8]) -> Result<(), Failed>
         ensures adds { OnOk result (Adds (Some self.old.held) (Some self.new.held) piece.now) }
-        ensures failed { OnErr result (Rose self.old.faults self.new.faults) }
+        ensures rose { OnErr result (Rose self.old.faults self.new.faults) }
         ensures front { OnErr result (AddsFront (Some self.old.held) (Some self.new.held) piece.now) }
         ensures never_falls { self.old.faults ≤ self.new.faults }
         ensures took { OnOk result (TookPiece self.old self.new piece.now) }

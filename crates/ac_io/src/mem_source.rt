@@ -53,7 +53,7 @@ impl Source for MemSource {
         ensures count { IfOk result (λ n. n ≤ length into.old) }
         ensures front { IfOk result (λ n. ReadsFront (Some self.old.rest) (Some self.new.rest) into.new n) }
         ensures end { IfOk result (λ n. n ≡ 0 → 0 < length into.old → IsAtEnd (Some self.old.rest)) }
-        ensures failed { OnErr result (Rose self.old.faults self.new.faults) }
+        ensures rose { OnErr result (Rose self.old.faults self.new.faults) }
         ensures kept { OnErr result (LosesNothing (Some self.old.rest) (Some self.new.rest)) }
         ensures never_falls { self.old.faults ≤ self.new.faults }
         ensures fails { IsErr result ↔ IsTrue (is_named self.old.failing self.old.call) }

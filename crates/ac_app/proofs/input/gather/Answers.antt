@@ -1,6 +1,6 @@
 use Rattle.std.proofs.Common.{ℕ, ◌≡◌, ◌+◌, ◌≤◌, refl, sym, subst, ◌∙◌, arith, length, lit<}
 use Rattle.std.proofs.lemmas.Result.{err_from_is_err_and}
-use Rattle.ac_wav.specs.Pieces.{TakesAtMost}
+use Rattle.ac_io.specs.Within.{TakesAtMost}
 use Rattle.ac_wav.specs.Body.{head_in, taken_by, IsBehind}
 use Rattle.ac_app.specs.Input.{limit}
 use Rattle.ac_app.proofs.Gathers.{none_yet, whole_piece, last_piece, unsampled, within_more, none_within, some_align, at_first, behind_head, further, few}
@@ -23,7 +23,7 @@ pub returns-in_err-n-clause-told : goal.returns-in_err-n-clause-told
 returns-in_err-n-clause-told g c = λ bytes h.
     let i = c.loop-samples.invariant in
     let s = i.told bytes h in
-    let u = c.in_err-n.ensures.told bytes (length c.loop-samples.samples.items) s.at i.stands in
+    let u = c.in_err-n.ensures.cause bytes (length c.loop-samples.samples.items) (record { at = s.at; behind = i.stands }) in
     let p = err_from_is_err_and c.from_residual.result c.from_residual.ensures.1 in
     let least = behind_head c.loop-samples.body c.args.head.now (length c.loop-samples.samples.items) i.head i.stands in
     rw (p.1, p.2) (unsampled bytes c.args.head.now (head_in c.loop-samples.body) (taken_by c.loop-samples.body) _ c.in_err-n.field-0.0 h.is c.requires.mono i.head i.limit_is least i.room u)
@@ -32,7 +32,7 @@ pub returns-then-n-lt1536-clause-told : goal.returns-then-n-lt1536-clause-told
 returns-then-n-lt1536-clause-told g c = λ bytes h.
     let i = c.loop-samples.invariant in
     let s = i.told bytes h in
-    let r = c.in_ok-n.ensures.told bytes (length c.loop-samples.samples.items) s.at i.stands in
+    let r = c.in_ok-n.ensures.told bytes (length c.loop-samples.samples.items) (record { at = s.at; behind = i.stands }) in
     let within : taken_by c.samples.new.self ≤ limit = omega (arith, c.in_ok-n.ensures.within, c.in_ok-n.ensures.limit, i.limit_is) in
     last_piece bytes c.args.head.now (head_in c.loop-samples.body) c.loop-samples.samples.items _ _ c.in_ok-n.n _ _ c.samples.new.out _ _ c.in_ok-add_front.ensures.added c.in_ok-add_front.ensures.count refl s i.head r c.if-n-lt1536.true h.is within
 
@@ -51,7 +51,7 @@ returns-then-n-lt1536-clause-count g c =
 pub loop-samples-smaller : goal.loop-samples-smaller
 loop-samples-smaller g c =
     let i = c.loop-samples.invariant in
-    let full : c.in_ok-n.n ≡ 1536 = omega (arith, c.in_ok-n.ensures.most, c.if-n-lt1536.false) in
+    let full : c.in_ok-n.n ≡ 1536 = omega (arith, c.in_ok-n.ensures.count, c.if-n-lt1536.false) in
     let next = c.in_ok-n.ensures.next (length c.loop-samples.samples.items) i.stands full in
     let some = some_align c.args.head.now c.requires.profile c.requires.mono in
     let more = further c.loop-samples.body c.samples.new.self c.args.head.now (length c.loop-samples.samples.items) i.head c.in_ok-n.ensures.head some i.stands next in
@@ -60,13 +60,13 @@ loop-samples-smaller g c =
 pub loop-samples-preserved : goal.loop-samples-preserved
 loop-samples-preserved g c =
     let i = c.loop-samples.invariant in
-    let full : c.in_ok-n.n ≡ 1536 = omega (arith, c.in_ok-n.ensures.most, c.if-n-lt1536.false) in
+    let full : c.in_ok-n.n ≡ 1536 = omega (arith, c.in_ok-n.ensures.count, c.if-n-lt1536.false) in
     let next = c.in_ok-n.ensures.next (length c.loop-samples.samples.items) i.stands full in
     let long : length c.add_front.new.samples.items ≡ length c.loop-samples.samples.items + 1536 = omega (arith, c.in_ok-add_front.ensures.count, full) in
     record {
       told = λ bytes h.
           let s = i.told bytes h in
-          let r = c.in_ok-n.ensures.told bytes (length c.loop-samples.samples.items) s.at i.stands in
+          let r = c.in_ok-n.ensures.told bytes (length c.loop-samples.samples.items) (record { at = s.at; behind = i.stands }) in
           whole_piece bytes c.args.head.now (head_in c.loop-samples.body) c.loop-samples.samples.items _ _ c.in_ok-n.n _ _ c.samples.new.out _ _ c.in_ok-add_front.ensures.added c.in_ok-add_front.ensures.count refl s i.head r full;
       head = c.in_ok-n.ensures.head ∙ i.head;
       limit_is = c.in_ok-n.ensures.limit ∙ i.limit_is;
@@ -79,14 +79,14 @@ loop-samples-preserved g c =
 pub returns-in_err-n-clause-most_read : goal.returns-in_err-n-clause-most_read
 returns-in_err-n-clause-most_read g c = λ bytes h.
     let i = c.loop-samples.invariant in
-    subst (λ (m : ℕ). TakesAtMost bytes (m + 1) (g.S.Source.left c.samples.new.input)) i.limit_is (c.in_err-n.ensures.takes bytes (i.told bytes h).at)
+    subst (λ (m : ℕ). TakesAtMost bytes (m + 1) (g.S.Source.left c.samples.new.input)) i.limit_is (c.in_err-n.ensures.most_read bytes (i.told bytes h).at)
 
 pub returns-in_err-add_front-clause-most_read : goal.returns-in_err-add_front-clause-most_read
 returns-in_err-add_front-clause-most_read g c = λ bytes h.
     let i = c.loop-samples.invariant in
-    subst (λ (m : ℕ). TakesAtMost bytes (m + 1) (g.S.Source.left c.samples.new.input)) i.limit_is (c.in_ok-n.ensures.takes bytes (i.told bytes h).at)
+    subst (λ (m : ℕ). TakesAtMost bytes (m + 1) (g.S.Source.left c.samples.new.input)) i.limit_is (c.in_ok-n.ensures.most_read bytes (i.told bytes h).at)
 
 pub returns-then-n-lt1536-clause-most_read : goal.returns-then-n-lt1536-clause-most_read
 returns-then-n-lt1536-clause-most_read g c = λ bytes h.
     let i = c.loop-samples.invariant in
-    subst (λ (m : ℕ). TakesAtMost bytes (m + 1) (g.S.Source.left c.samples.new.input)) i.limit_is (c.in_ok-n.ensures.takes bytes (i.told bytes h).at)
+    subst (λ (m : ℕ). TakesAtMost bytes (m + 1) (g.S.Source.left c.samples.new.input)) i.limit_is (c.in_ok-n.ensures.most_read bytes (i.told bytes h).at)

@@ -6,7 +6,7 @@ use Rattle.ac_app.proofs.input.read_input.Goals as goal
 pub returns-in_err-head-clause-told : goal.returns-in_err-head-clause-told
 returns-in_err-head-clause-told g c = λ bytes e.
     let p = err_from_is_err_and c.from_residual.result c.from_residual.ensures.1 in
-    rw (p.1, p.2) (head_stopped bytes c.in_err-head.field-0.0 (c.in_err-head.ensures.told bytes e))
+    rw (p.1, p.2) (head_stopped bytes c.in_err-head.field-0.0 (c.in_err-head.ensures.cause bytes e))
 
 pub returns-then-not-is_mono-clause-told : goal.returns-then-not-is_mono-clause-told
 returns-then-not-is_mono-clause-told g c = λ bytes e.
