@@ -23,7 +23,7 @@ impl<W: Write + Drop> StdSink<W> {
     /// One write of std, which has to take some bytes.
     fn write_some(&mut self, piece: &[u8]) -> Result<usize, Failed>
         requires { 0 < length piece.now }
-        ensures room { IfOk result (λ n. (0 < n) × (n ≤ length piece.now)) }
+        ensures count { IfOk result (λ n. (0 < n) × (n ≤ length piece.now)) }
         ensures bytes { IfOk result (λ n.
             Adds (W.contents self.old.inner) (W.contents self.new.inner) (take n piece.now)) }
         ensures kept { OnErr result (Adds (W.contents self.old.inner) (W.contents self.new.inner) []) }
