@@ -5,7 +5,7 @@ use Rattle.std.proofs.lemmas.List.{take-take}
 use Rattle.ac_io.specs.Outside.{Adds, AddsFront}
 
 -- two pieces, one after the other
-adds_both : (a b c : Option (List ℕ)) (xs ys : List ℕ) → Adds a b xs → Adds b c ys → Adds a c (xs ++ ys)
+pub adds_both : (a b c : Option (List ℕ)) (xs ys : List ℕ) → Adds a b xs → Adds b c ys → Adds a c (xs ++ ys)
 adds_both None b c xs ys p q = tt
 adds_both (Some held) None c xs ys p q = cc
 adds_both (Some held) (Some bs) c xs ys p q =

@@ -13,6 +13,7 @@ mod outside;
 mod std_sink;
 mod std_source;
 mod sure;
+mod within;
 
 pub use mem_sink::MemSink;
 pub use mem_source::MemSource;
@@ -20,3 +21,4 @@ pub use outside::{Failed, Sink, Source, fill};
 pub use std_sink::StdSink;
 pub use std_source::StdSource;
 pub use sure::{NullSink, SureSource};
+pub use within::{Unread, read_within};

@@ -70,12 +70,13 @@ impl Sink for MemSink {
 
     fn write(&mut self, piece: &[u8]) -> Result<(), Failed>
         ensures adds { OnOk result (Adds (Some self.old.held) (Some self.new.held) piece.now) }
-        ensures failed { OnErr result (Rose self.old.faults self.new.faults) }
+        ensures rose { OnErr result (Rose self.old.faults self.new.faults) }
         ensures front { OnErr result (AddsFront (Some self.old.held) (Some self.new.held) piece.now) }
         ensures never_falls { self.old.faults ≤ self.new.faults }
-        ensures took { OnOk result (TookPiece self.old self.new piece.now) }
-        ensures named { IsTrue (is_named self.old.failing self.old.call) → IsErr result × (self.new ≡ after_failed_write self.old) }
-        ensures unnamed { OnErr result (is_named self.old.failing self.old.call ≡ false
+        ensures told { OnOk result (TookPiece self.old self.new piece.now) }
+        ensures complete { IsTrue (is_named self.old.failing self.old.call)
+            → IsErr result × (self.new ≡ after_failed_write self.old) }
+        ensures cause { OnErr result (is_named self.old.failing self.old.call ≡ false
             → IsStarved self.old self.new (length piece.now)) }
     {
         let fails = is_failing(&self.failing, self.call);

@@ -1,4 +1,4 @@
-ghost use Rattle.std.specs.Prelude.{◌≡◌, ◌<◌, ◌≤◌, ◌++◌, length, take, drop, min, Some, IfOk, OnErr, IsTrue, IsErr, ◌↔◌};
+ghost use Rattle.std.specs.Prelude.{◌≡◌, ◌<◌, ◌≤◌, ◌++◌, length, take, drop, min, Some, IfOk, OnErr, MatchResult, IsTrue, IsErr, ◌↔◌};
 ghost use Rattle.ac_io.specs.Outside.{Rose, ReadsFront, IsAtEnd, LosesNothing};
 ghost use Rattle.ac_io.specs.Memory.{is_named, new_incoming, after_read, after_failed_read};
 
@@ -53,15 +53,14 @@ impl Source for MemSource {
         ensures count { IfOk result (λ n. n ≤ length into.old) }
         ensures front { IfOk result (λ n. ReadsFront (Some self.old.rest) (Some self.new.rest) into.new n) }
         ensures end { IfOk result (λ n. n ≡ 0 → 0 < length into.old → IsAtEnd (Some self.old.rest)) }
-        ensures failed { OnErr result (Rose self.old.faults self.new.faults) }
+        ensures rose { OnErr result (Rose self.old.faults self.new.faults) }
         ensures kept { OnErr result (LosesNothing (Some self.old.rest) (Some self.new.rest)) }
         ensures never_falls { self.old.faults ≤ self.new.faults }
-        ensures fails { IsErr result ↔ IsTrue (is_named self.old.failing self.old.call) }
-        ensures many { IfOk result (λ n. n ≡ min (length self.old.rest) (length into.old)) }
-        ensures bytes { IfOk result (λ n. into.new ≡ take n self.old.rest ++ drop n into.old) }
-        ensures gave { IfOk result (λ n. self.new ≡ after_read self.old n) }
-        ensures took_nothing { OnErr result (self.new ≡ after_failed_read self.old) }
-        ensures wrote_nothing { OnErr result (into.new ≡ into.old) }
+        ensures cause { IsErr result ↔ IsTrue (is_named self.old.failing self.old.call) }
+        ensures value { IfOk result (λ n. n ≡ min (length self.old.rest) (length into.old)) }
+        ensures rest { IfOk result (λ n. into.new ≡ take n self.old.rest ++ drop n into.old) }
+        ensures told { MatchResult result (λ n. self.new ≡ after_read self.old n) (λ _. self.new ≡ after_failed_read self.old) }
+        ensures unwritten { OnErr result (into.new ≡ into.old) }
     {
         let fails = is_failing(&self.failing, self.call);
         self.call = self.call.saturating_add(1);

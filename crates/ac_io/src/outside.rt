@@ -24,7 +24,7 @@ pub trait Source {
         ensures count { IfOk result (λ n. n ≤ length into.old) }
         ensures front { IfOk result (λ n. ReadsFront (left self.old) (left self.new) into.new n) }
         ensures end { IfOk result (λ n. n ≡ 0 → 0 < length into.old → IsAtEnd (left self.old)) }
-        ensures failed { OnErr result (Rose (faults self.old) (faults self.new)) }
+        ensures rose { OnErr result (Rose (faults self.old) (faults self.new)) }
         ensures kept { OnErr result (LosesNothing (left self.old) (left self.new)) }
         ensures never_falls { faults self.old ≤ faults self.new };
 }
@@ -44,7 +44,7 @@ pub trait Sink {
     /// `Failed` where the count of faults rose, or stands at its end. The sink took a front of the piece.
     fn write(&mut self, piece: &[u8]) -> Result<(), Failed>
         ensures adds { OnOk result (Adds (held self.old) (held self.new) piece.now) }
-        ensures failed { OnErr result (Rose (faults self.old) (faults self.new)) }
+        ensures rose { OnErr result (Rose (faults self.old) (faults self.new)) }
         ensures front { OnErr result (AddsFront (held self.old) (held self.new) piece.now) }
         ensures never_falls { faults self.old ≤ faults self.new };
 }
@@ -60,7 +60,7 @@ pub fn fill<S: Source>(input: &mut S, into: &mut [u8]) -> Result<usize, Failed>
     ensures front { IfOk result (λ n. ReadsFront (S.left input.old) (S.left input.new) into.new n) }
     ensures end { IfOk result (λ n.
         n < length into.old → IfSome (S.left input.old) (λ bytes. n ≡ length bytes)) }
-    ensures failed { OnErr result (Rose (S.faults input.old) (S.faults input.new)) }
+    ensures rose { OnErr result (Rose (S.faults input.old) (S.faults input.new)) }
     ensures kept { OnErr result (LosesFewer (S.left input.old) (S.left input.new) (length into.old)) }
     ensures never_falls { S.faults input.old ≤ S.faults input.new }
 {

@@ -23,11 +23,11 @@ impl<W: Write + Drop> StdSink<W> {
     /// One write of std, which has to take some bytes.
     fn write_some(&mut self, piece: &[u8]) -> Result<usize, Failed>
         requires { 0 < length piece.now }
-        ensures room { IfOk result (λ n. (0 < n) × (n ≤ length piece.now)) }
+        ensures count { IfOk result (λ n. (0 < n) × (n ≤ length piece.now)) }
         ensures bytes { IfOk result (λ n.
             Adds (W.contents self.old.inner) (W.contents self.new.inner) (take n piece.now)) }
         ensures kept { OnErr result (Adds (W.contents self.old.inner) (W.contents self.new.inner) []) }
-        ensures failed { OnErr result (self.new.faults ≡ next self.old.faults) }
+        ensures rose { OnErr result (self.new.faults ≡ next self.old.faults) }
         ensures counted { OnOk result (self.new.faults ≡ self.old.faults) }
     {
         let outcome = self.inner.write(piece);
@@ -48,7 +48,7 @@ impl<W: Write + Drop> Sink for StdSink<W> {
 
     fn write(&mut self, piece: &[u8]) -> Result<(), Failed>
         ensures adds { OnOk result (Adds (W.contents self.old.inner) (W.contents self.new.inner) piece.now) }
-        ensures failed { OnErr result (Rose self.old.faults self.new.faults) }
+        ensures rose { OnErr result (Rose self.old.faults self.new.faults) }
         ensures front { OnErr result (AddsFront (W.contents self.old.inner) (W.contents self.new.inner) piece.now) }
         ensures never_falls { self.old.faults ≤ self.new.faults }
         ensures once { OnErr result (self.new.faults ≡ next self.old.faults) }

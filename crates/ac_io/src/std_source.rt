@@ -31,7 +31,7 @@ impl<R: Read + Drop> Source for StdSource<R> {
         ensures front { IfOk result (λ n.
             ReadsFront (R.remaining self.old.inner) (R.remaining self.new.inner) into.new n) }
         ensures end { IfOk result (λ n. n ≡ 0 → 0 < length into.old → IsAtEnd (R.remaining self.old.inner)) }
-        ensures failed { OnErr result (Rose self.old.faults self.new.faults) }
+        ensures rose { OnErr result (Rose self.old.faults self.new.faults) }
         ensures kept { OnErr result (LosesNothing (R.remaining self.old.inner) (R.remaining self.new.inner)) }
         ensures never_falls { self.old.faults ≤ self.new.faults }
         ensures once { OnErr result (self.new.faults ≡ next self.old.faults) }

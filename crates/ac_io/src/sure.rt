@@ -40,9 +40,9 @@ impl Source for SureSource {
         ensures count { IfOk result (λ n. n ≤ length into.old) }
         ensures front { IfOk result (λ n. ReadsFront (Some self.old) (Some self.new) into.new n) }
         ensures end { IfOk result (λ n. n ≡ 0 → 0 < length into.old → IsAtEnd (Some self.old)) }
-        ensures sure { IsOk result }
-        ensures many { IfOk result (λ n. n ≡ min (length self.old) (length into.old)) }
-        ensures bytes { IfOk result (λ n. into.new ≡ take n self.old ++ drop n into.old) }
+        ensures complete { IsOk result }
+        ensures value { IfOk result (λ n. n ≡ min (length self.old) (length into.old)) }
+        ensures rest { IfOk result (λ n. into.new ≡ take n self.old ++ drop n into.old) }
     {
         let count = copy_front(&self.bytes[self.at..], into);
         self.at += count;
@@ -60,7 +60,7 @@ impl Sink for NullSink {
     ghost faults = { λ _. 0 };
 
     fn write(&mut self, piece: &[u8]) -> Result<(), Failed>
-        ensures sure { IsOk result }
+        ensures complete { IsOk result }
     {
         let _ = piece;
         Ok(())

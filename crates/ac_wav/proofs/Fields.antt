@@ -6,7 +6,8 @@ use Rattle.byteorder.specs.Endian.{little_from}
 use Rattle.ac_wav.specs.declared.format.Format.{Format}
 use Rattle.ac_wav.specs.Format.{fields_of}
 use Rattle.ac_wav.specs.Form.{size_of, whole_length, padded, body_of}
-use Rattle.ac_wav.specs.Pieces.{IsAt, ReadsOn, FormatRead, chunk_at}
+use Rattle.ac_io.specs.Within.{IsAt, ReadsOn}
+use Rattle.ac_wav.specs.Pieces.{FormatRead, chunk_at}
 use Rattle.ac_wav.proofs.Chunks.{size_take, chunk_long}
 
 number_same : (place n j : ℕ) (xs ys : List ℕ) → (place + j) + n ≤ 40 → ((i : ℕ) → i < 40 → slice_index xs i ≡ slice_index ys i) → little_from j n (drop place xs) ≡ little_from j n (drop place ys)

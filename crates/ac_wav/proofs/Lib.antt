@@ -1,4 +1,3 @@
-pub mod Limits
 pub mod Chunks
 pub mod Stops
 pub mod Fields
@@ -12,3 +11,4 @@ pub mod Endings
 pub mod Each
 pub mod Whole
 pub mod Exact
+pub mod Taken

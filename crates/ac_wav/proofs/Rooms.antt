@@ -55,3 +55,11 @@ room t o w ch n low below =
 
 pub offset_room : (head : WavHead) (c t n : ℕ) → IsOfProfile head → t < n / align_of head → offset_of head c t + width_of head ≤ n
 offset_room head c t n p below = room t (slice_index head.order c) (width_of head) head.channels n (order_below head c p) below
+
+-- there is a channel, and a sample of it has two bytes at least
+pub align_least : (head : WavHead) → IsOfProfile head → 0 < align_of head
+align_least head p =
+    let fits = order_fits head.acmod head.lfe p.acmod_least p.acmod_most in
+    let wide : 2 ≤ head.bits / 8 = omega (arith, p.bits_least) in
+    let one : 1 * width_of head ≤ head.channels * width_of head = mul-le-mul_right (width_of head) (omega (arith, fits.0, p.count)) in
+    omega (arith, one, wide)

@@ -16,7 +16,8 @@ use Rattle.ac_wav.specs.declared.chunk.Name.TheVariants as names
 use Rattle.ac_wav.specs.Format.{format_of, fault_of, IsOfField}
 use Rattle.ac_wav.specs.Form.{name_of, size_of, padded, whole_length, body_of, IsRiff, IsOpen, IsFormatted, head_of}
 use Rattle.ac_wav.specs.Refusal.{Reaches, IsNoRiff, IsFaulty, Refuses, IsTooLong, IsStopped, HeadRead}
-use Rattle.ac_wav.specs.Pieces.{IsAt, NameIs, ReadsOn, IsUntaken, IsNoChunk, chunk_at, FormatRead, IsFound, DataFound}
+use Rattle.ac_io.specs.Within.{IsAt, ReadsOn}
+use Rattle.ac_wav.specs.Pieces.{NameIs, IsUntaken, IsNoChunk, chunk_at, FormatRead, IsFound, DataFound}
 use Rattle.ac_wav.proofs.Chunks.{from_cut, name_cut, size_cut, length_cut, within_cut, open_cut, reaches_cut, chunk_whole, chunk_long, chunk_name, formatted_first, open_more, formatted_more}
 
 -- a list that is no longer than the limit is its own front

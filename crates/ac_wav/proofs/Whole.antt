@@ -11,7 +11,7 @@ use Rattle.ac_wav.specs.declared.head.WavHead.{WavHead}
 use Rattle.ac_wav.specs.Format.{format_of}
 use Rattle.ac_wav.specs.Form.{body_of, IsRiff, IsOpen, IsFormatted, IsDataAt, IsHead, head_of, stated, IsWav}
 use Rattle.ac_wav.specs.Refusal.{Reaches, IsNoRiff, IsFaulty, Refuses, IsTooLong, IsStopped, HeadRead}
-use Rattle.ac_wav.specs.Pieces.{IsAt}
+use Rattle.ac_io.specs.Within.{IsAt}
 use Rattle.ac_wav.specs.Samples.{align_of, data_length, part_of, frame_bytes, SamplesRead, IsUnsampled}
 use Rattle.ac_wav.specs.Whole.{end_of, behind, HasCutData, RefusesWav, RunsOn, NeedsMore, EndsWithin, RefusedWithin}
 use Rattle.ac_wav.proofs.Chunks.{from_cut, name_cut, size_cut, length_cut, within_cut, open_least, start_least, formatted_cut}

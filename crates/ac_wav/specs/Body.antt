@@ -1,5 +1,6 @@
 -- What a reader of samples keeps, and where it stands. All of it is this project's own.
-use Rattle.std.specs.Prelude.{◌≡◌, ℕ, ◌+◌, ◌*◌, Bool, false, Option, None}
+use Rattle.std.specs.Prelude.{◌≡◌, ℕ, ◌+◌, ◌*◌, nat_lt, Bool, ◌||◌, false, List, Option, None}
+use Rattle.ac_io.specs.Within.{IsAt}
 use Rattle.ac_wav.specs.declared.body.WavBody.{WavBody}
 use Rattle.ac_wav.specs.declared.fault.WavFault.{WavFault}
 use Rattle.ac_wav.specs.declared.head.WavHead.{WavHead}
@@ -30,3 +31,13 @@ pub record IsBehind (body : WavBody) (n : ℕ) : Type 0 where
   pub taken_is : taken_by body ≡ (head_in body).taken + n * align_of (head_in body)
   pub going : is_ended body ≡ false
   pub unrefused : kept_by body ≡ None
+
+-- and so does the source, in the whole list of its bytes
+pub record StandsBehind (bytes : List ℕ) (body : WavBody) (n : ℕ) (left : Option (List ℕ)) : Type 0 where
+  pub at : IsAt bytes (taken_by body) left
+  pub behind : IsBehind body n
+
+-- a call that answered n samples kept no refusal, and answered the end where n is below 1,536
+pub record EndsAt (old new : WavBody) (n : ℕ) : Type 0 where
+  pub unrefused : kept_by new ≡ None
+  pub ended : is_ended new ≡ (is_ended old || nat_lt n 1536)

@@ -1,5 +1,6 @@
 -- What the pieces that are read tell of the whole list. The reader, its limit and its refusals are this project's own.
-use Rattle.std.specs.Prelude.{◌≡◌, ◌≢◌, ℕ, ◌+◌, ◌≤◌, ◌<◌, List, length, take, drop, codes, Option, Some, None}
+use Rattle.std.specs.Prelude.{◌≡◌, ◌≢◌, ℕ, ◌+◌, ◌≤◌, ◌<◌, min, List, length, take, drop, codes, Option}
+use Rattle.ac_io.specs.Within.{IsAt, StandsIn}
 use Rattle.ac_wav.specs.declared.fault.WavKind.TheVariants.{Short, NotRiff, NoFmt, NoData, BadFmt, Unsupported, NotYet}
 use Rattle.ac_wav.specs.declared.fault.WavFault.{WavFault}
 use Rattle.ac_wav.specs.declared.fault.WavFault.TheVariants.{Bad, ReadFault, TooLong}
@@ -12,40 +13,18 @@ use Rattle.ac_wav.specs.declared.head.Samples.{Samples}
 use Rattle.ac_wav.specs.Format.{format_of}
 use Rattle.ac_wav.specs.Form.{name_of, size_of, whole_length, body_of, IsFormatted}
 
--- the source stands at this place of the list
-pub record IsAt (bytes : List ℕ) (place : ℕ) (left : Option (List ℕ)) : Type 0 where
-  pub within : place ≤ length bytes
-  pub left_is : left ≡ Some (drop place bytes)
-
--- at most this many of the first bytes were taken, where the source still tells what is left
-abbrev pub TakesAtMost : List ℕ → ℕ → Option (List ℕ) → Type 0
-TakesAtMost bytes most None = Unit {0}
-TakesAtMost bytes most (Some rest) = (k : ℕ) × (k ≤ most) × (k ≤ length bytes) × (rest ≡ drop k bytes)
-
--- all n bytes that were there were read into the front of a piece
-pub record ReadsAll (bytes : List ℕ) (n : ℕ) (piece : List ℕ) (left : Option (List ℕ)) : Type 0 where
-  pub all : n ≡ length bytes
-  pub fits : n ≤ length piece
-  pub front : take n piece ≡ take n bytes
-  pub left_is : left ≡ Some (drop n bytes)
-
--- why not all bytes were read: there are more than a piece holds
-abbrev pub IsLonger : List ℕ → ℕ → WavFault → Type 0
-IsLonger bytes room (Bad kind place) = ⊥
-IsLonger bytes room ReadFault = Unit {0}
-IsLonger bytes room TooLong = room < length bytes
-
--- n bytes behind the first `taken` were read into the front of a piece; fewer than it holds only at the end
-pub record ReadsOn (bytes : List ℕ) (taken n : ℕ) (piece : List ℕ) (left : Option (List ℕ)) : Type 0 where
-  pub at : IsAt bytes (taken + n) left
-  pub front : take n piece ≡ take n (drop taken bytes)
-  pub end : n < length piece → taken + n ≡ length bytes
-
 -- why up to n bytes weren't read: byte number limit + 1 is needed, and there
 abbrev pub IsUnread : List ℕ → ℕ → ℕ → ℕ → WavFault → Type 0
 IsUnread bytes taken n limit (Bad kind place) = ⊥
 IsUnread bytes taken n limit ReadFault = Unit {0}
 IsUnread bytes taken n limit TooLong = (limit < length bytes) × (limit < taken + n)
+
+-- what is left where up to n bytes behind the first `taken` weren't read: all behind byte number limit + 1 where that was needed;
+-- where a read failed, and the source still tells its bytes, fewer than n of them were lost, and none past the limit
+abbrev pub UnreadLeaves : List ℕ → ℕ → ℕ → ℕ → WavFault → Option (List ℕ) → Type 0
+UnreadLeaves bytes taken n limit (Bad kind place) left = ⊥
+UnreadLeaves bytes taken n limit ReadFault left = StandsIn bytes taken (min (taken + n) (limit + 1)) left
+UnreadLeaves bytes taken n limit TooLong left = IsAt bytes (limit + 1) left
 
 -- why n bytes weren't taken: the list ends before, or the limit is passed
 abbrev pub IsUntaken : List ℕ → ℕ → ℕ → ℕ → WavFault → Type 0

@@ -1,6 +1,7 @@
 -- Why a list of bytes is refused, and at which place: the first rule that fails, chunk by chunk. The rules are those of
 -- RIFF WAVE and its `fmt ` chunk; the kinds, the places, their order and the limit are this project's own.
 use Rattle.std.specs.Prelude.{◌≡◌, ◌≢◌, ℕ, ◌+◌, ◌≤◌, ◌<◌, ◌⊎◌, List, length, take, drop, codes, Option, Some, Result, Ok, Err}
+use Rattle.ac_io.specs.Within.{IsAt, TakesAtMost}
 use Rattle.ac_wav.specs.declared.fault.WavKind.{WavKind}
 use Rattle.ac_wav.specs.declared.fault.WavKind.TheVariants.{Short, NotRiff, NoFmt, NoData, BadFmt, Unsupported, NotYet}
 use Rattle.ac_wav.specs.declared.fault.WavFault.{WavFault}
@@ -61,6 +62,19 @@ abbrev pub IsStopped : List ℕ → ℕ → WavFault → Type 0
 IsStopped bytes limit (Bad kind place) = Refuses bytes kind place × Refuses (take limit bytes) kind place
 IsStopped bytes limit ReadFault = Unit {0}
 IsStopped bytes limit TooLong = IsTooLong bytes limit
+
+-- what is left where a head wasn't read: nothing where the list ends too early; all behind byte number limit + 1 where that was
+-- needed; else at most `limit` bytes were taken, where the source still tells what is left
+abbrev pub RefusalLeaves : List ℕ → ℕ → WavFault → Option (List ℕ) → Type 0
+RefusalLeaves bytes limit (Bad Short place) left = IsAt bytes (length bytes) left
+RefusalLeaves bytes limit (Bad NoData place) left = IsAt bytes (length bytes) left
+RefusalLeaves bytes limit (Bad NotRiff place) left = TakesAtMost bytes limit left
+RefusalLeaves bytes limit (Bad NoFmt place) left = TakesAtMost bytes limit left
+RefusalLeaves bytes limit (Bad (BadFmt field) place) left = TakesAtMost bytes limit left
+RefusalLeaves bytes limit (Bad (Unsupported field value) place) left = TakesAtMost bytes limit left
+RefusalLeaves bytes limit (Bad NotYet place) left = ⊥
+RefusalLeaves bytes limit ReadFault left = TakesAtMost bytes limit left
+RefusalLeaves bytes limit TooLong left = IsAt bytes (limit + 1) left
 
 -- the list begins with this head, which was read within the limit and not past it
 pub record HeadRead (bytes : List ℕ) (limit : ℕ) (head : WavHead) (left : Option (List ℕ)) : Type 0 where

@@ -7,7 +7,7 @@ use Rattle.ac_wav.specs.declared.fault.WavFault.{WavFault}
 use Rattle.ac_wav.specs.declared.fault.WavFault.TheVariants.{Bad, ReadFault, TooLong}
 use Rattle.ac_wav.specs.declared.head.WavHead.{WavHead}
 use Rattle.ac_wav.specs.Form.{stated}
-use Rattle.ac_wav.specs.Pieces.{IsAt}
+use Rattle.ac_io.specs.Within.{IsAt, StandsIn}
 
 -- the bytes of one sample
 abbrev pub width_of : WavHead → ℕ
@@ -88,6 +88,24 @@ IsUnsampled bytes head before limit (Bad (Unsupported field value) place) = ⊥
 IsUnsampled bytes head before limit (Bad NotYet place) = ⊥
 IsUnsampled bytes head before limit ReadFault = Unit {0}
 IsUnsampled bytes head before limit TooLong = (limit < length bytes) × (limit < before + frame_bytes head before)
+
+-- what is left where they weren't read: nothing where the data are cut; all behind byte number limit + 1 where that was needed;
+-- where a read failed, and the source still tells its bytes, it lost fewer behind the first `before` than the next 1,536 samples
+-- ask for, and none past the limit
+abbrev pub UnsampledLeaves : List ℕ → WavHead → ℕ → ℕ → WavFault → Option (List ℕ) → Type 0
+UnsampledLeaves bytes head before limit (Bad kind place) left = IsAt bytes (length bytes) left
+UnsampledLeaves bytes head before limit ReadFault left = StandsIn bytes before (min (before + frame_bytes head before) (limit + 1)) left
+UnsampledLeaves bytes head before limit TooLong left = IsAt bytes (limit + 1) left
+
+-- the number of whole samples of each channel in the data bytes among the first `taken`; byte number limit + 1 isn't counted
+abbrev pub samples_taken : WavHead → ℕ → ℕ → ℕ
+samples_taken head limit taken = (min taken limit - head.taken) / align_of head
+
+-- where the source still tells what is left, the data bytes that were taken hold so many whole frames of 1,536 samples of each
+-- channel, and no more (A/52 5.3)
+abbrev pub FramesTaken : List ℕ → WavHead → ℕ → ℕ → Option (List ℕ) → Type 0
+FramesTaken bytes head limit frames None = Unit {0}
+FramesTaken bytes head limit frames (Some rest) = (taken : ℕ) × IsAt bytes taken (Some rest) × (frames ≡ samples_taken head limit taken / 1536)
 
 -- where no read fails, the answer is the refusal whose cause is there
 pub record StopsExactly (bytes : List ℕ) (head : WavHead) (before limit : ℕ) (result : Result ℕ WavFault) : Type 0 where

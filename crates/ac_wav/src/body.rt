@@ -2,13 +2,13 @@
 ghost use Rattle.std.specs.Prelude.{◌≡◌, ℕ, ◌+◌, ◌*◌, ◌≤◌, List, IfOk, IfErr, MatchResult, IsErrOf};
 ghost use Rattle.ac_io.specs.Outside.{Rose};
 ghost use Rattle.ac_wav.specs.Form.{IsOfProfile};
-ghost use Rattle.ac_wav.specs.Pieces.{IsAt, TakesAtMost};
-ghost use Rattle.ac_wav.specs.Samples.{align_of, frame_bytes, part_of, RowsWithin, RowsAre, SamplesRead, IsUnsampled, IsStanding, PartRead};
+ghost use Rattle.ac_io.specs.Within.{IsAt, TakesAtMost};
+ghost use Rattle.ac_wav.specs.Samples.{align_of, frame_bytes, part_of, RowsWithin, RowsAre, SamplesRead, IsUnsampled, UnsampledLeaves, IsStanding, PartRead};
 ghost use Rattle.ac_wav.specs.declared.fault.WavFault.{WavFault};
 
 use crate::fault::{WavFault, WavKind};
 use crate::head::WavHead;
-use crate::pieces::read_within;
+use crate::pieces::read_piece;
 use crate::samples::{align, spread};
 use ac_io::Source;
 
@@ -52,13 +52,15 @@ fn read_part<S: Source>(
     ensures within { IfOk result (λ n. taken + n ≤ limit) }
     ensures stands { IfOk result (λ n. IsStanding head.now (taken + n)) }
     ensures told { (bytes : List ℕ) → IsAt bytes taken (S.left input.old) → MatchResult result
-        (λ n. PartRead bytes head.now taken n piece.new (S.left input.new)) (IsUnsampled bytes head.now taken limit) }
-    ensures takes { (bytes : List ℕ) → IsAt bytes taken (S.left input.old) → TakesAtMost bytes (limit + 1) (S.left input.new) }
-    ensures failed { IsErrOf result WavFault.ReadFault → Rose (S.faults input.old) (S.faults input.new) }
+        (λ n. PartRead bytes head.now taken n piece.new (S.left input.new))
+        (λ fault. UnsampledLeaves bytes head.now taken limit fault (S.left input.new)) }
+    ensures cause { (bytes : List ℕ) → IsAt bytes taken (S.left input.old) → IfErr result (IsUnsampled bytes head.now taken limit) }
+    ensures most_read { (bytes : List ℕ) → IsAt bytes taken (S.left input.old) → TakesAtMost bytes (limit + 1) (S.left input.new) }
+    ensures rose { IsErrOf result WavFault.ReadFault → Rose (S.faults input.old) (S.faults input.new) }
     ensures never_falls { S.faults input.old ≤ S.faults input.new }
 {
     let want = wanted(head, taken);
-    let n = read_within(input, taken, limit, &mut piece[..want])?;
+    let n = read_piece(input, taken, limit, &mut piece[..want])?;
     if n == want {
         return Ok(n);
     }
@@ -79,17 +81,20 @@ fn read_samples<S: Source>(
     requires profile { IsOfProfile head.now }
     requires standing { IsStanding head.now taken }
     requires room { taken ≤ limit }
-    ensures most { IfOk result (λ piece. piece.samples ≤ 1536) }
+    ensures count { IfOk result (λ piece. piece.samples ≤ 1536) }
     ensures moves { IfOk result (λ piece. piece.samples ≤ piece.bytes) }
     ensures full { IfOk result (λ piece. piece.samples ≡ 1536 → piece.bytes ≡ 1536 * align_of head.now) }
     ensures within { IfOk result (λ piece. taken + piece.bytes ≤ limit) }
     ensures stands { IfOk result (λ piece. IsStanding head.now (taken + piece.bytes)) }
     ensures bound { IfOk result (λ _. RowsWithin out.new) }
-    ensures unwritten { IfErr result (λ _. out.new ≡ out.old) }
-    ensures told { (bytes : List ℕ) («from» : ℕ) → IsAt bytes taken (S.left input.old) → taken ≡ head.now.taken + «from» * align_of head.now → MatchResult result
-        (λ piece. SamplesRead bytes head.now taken «from» (taken + piece.bytes) piece.samples out.new (S.left input.new)) (IsUnsampled bytes head.now taken limit) }
-    ensures takes { (bytes : List ℕ) → IsAt bytes taken (S.left input.old) → TakesAtMost bytes (limit + 1) (S.left input.new) }
-    ensures failed { IsErrOf result WavFault.ReadFault → Rose (S.faults input.old) (S.faults input.new) }
+    ensures kept { IfErr result (λ _. out.new ≡ out.old) }
+    ensures told { (bytes : List ℕ) («from» : ℕ) → IsAt bytes taken (S.left input.old)
+        → taken ≡ head.now.taken + «from» * align_of head.now → MatchResult result
+        (λ piece. SamplesRead bytes head.now taken «from» (taken + piece.bytes) piece.samples out.new (S.left input.new))
+        (λ fault. UnsampledLeaves bytes head.now taken limit fault (S.left input.new)) }
+    ensures cause { (bytes : List ℕ) → IsAt bytes taken (S.left input.old) → IfErr result (IsUnsampled bytes head.now taken limit) }
+    ensures most_read { (bytes : List ℕ) → IsAt bytes taken (S.left input.old) → TakesAtMost bytes (limit + 1) (S.left input.new) }
+    ensures rose { IsErrOf result WavFault.ReadFault → Rose (S.faults input.old) (S.faults input.new) }
     ensures never_falls { S.faults input.old ≤ S.faults input.new }
 {
     let mut piece = [0; 27648];

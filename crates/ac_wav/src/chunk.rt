@@ -1,11 +1,13 @@
 //! The heads of chunks.
-ghost use Rattle.std.specs.Prelude.{◌≡◌, ℕ, ◌+◌, ◌≤◌, ◌<◌, List, length, drop, IfOk, MatchResult, IsErrOf};
+ghost use Rattle.std.specs.Prelude.{◌≡◌, ℕ, ◌+◌, ◌≤◌, ◌<◌, List, length, drop, IfOk, IfErr, MatchResult, IsErrOf};
 ghost use Rattle.ac_io.specs.Outside.{Rose};
 ghost use Rattle.ac_wav.specs.Form.{padded, name_of, size_of};
-ghost use Rattle.ac_wav.specs.Pieces.{IsAt, NameIs, ChunkRead, IsNoChunk, TakesAtMost};
+ghost use Rattle.ac_io.specs.Within.{IsAt, TakesAtMost};
+ghost use Rattle.ac_wav.specs.Pieces.{NameIs, ChunkRead, IsNoChunk};
+ghost use Rattle.ac_wav.specs.Refusal.{RefusalLeaves};
 
 use crate::fault::{WavFault, WavKind};
-use crate::pieces::read_within;
+use crate::pieces::read_piece;
 use ac_io::Source;
 use byteorder::{ByteOrder, LittleEndian};
 
@@ -72,15 +74,16 @@ pub fn read_chunk_head<S: Source>(
     limit: u64,
 ) -> Result<ChunkHead, WavFault>
     requires { place ≤ limit }
-    ensures within { IfOk result (λ _. place + 8 ≤ limit) }
+    ensures bound { IfOk result (λ _. place + 8 ≤ limit) }
     ensures told { (bytes : List ℕ) → IsAt bytes place (S.left input.old) → MatchResult result
-        (λ chunk. ChunkRead bytes place chunk (S.left input.new)) (IsNoChunk bytes place limit) }
-    ensures takes { (bytes : List ℕ) → IsAt bytes place (S.left input.old) → TakesAtMost bytes (limit + 1) (S.left input.new) }
-    ensures failed { IsErrOf result WavFault.ReadFault → Rose (S.faults input.old) (S.faults input.new) }
+        (λ chunk. ChunkRead bytes place chunk (S.left input.new)) (λ fault. RefusalLeaves bytes limit fault (S.left input.new)) }
+    ensures cause { (bytes : List ℕ) → IsAt bytes place (S.left input.old) → IfErr result (IsNoChunk bytes place limit) }
+    ensures most_read { (bytes : List ℕ) → IsAt bytes place (S.left input.old) → TakesAtMost bytes (limit + 1) (S.left input.new) }
+    ensures rose { IsErrOf result WavFault.ReadFault → Rose (S.faults input.old) (S.faults input.new) }
     ensures never_falls { S.faults input.old ≤ S.faults input.new }
 {
     let mut head = [0; 8];
-    let n = read_within(input, place, limit, &mut head)?;
+    let n = read_piece(input, place, limit, &mut head)?;
     if n == 0 {
         return Err(WavFault::Bad(WavKind::NoData, place));
     }

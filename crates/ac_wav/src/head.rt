@@ -1,10 +1,11 @@
 //! The head of a WAV.
-ghost use Rattle.std.specs.Prelude.{◌≡◌, ◌≢◌, ℕ, ◌+◌, ◌≤◌, ◌<◌, ◌⊎◌, List, length, drop, codes, Option, Some, None, take, IfOk, OnOk, MatchOption, MatchResult, IsErrOf, Err};
+ghost use Rattle.std.specs.Prelude.{◌≡◌, ◌≢◌, ℕ, ◌+◌, ◌≤◌, ◌<◌, ◌⊎◌, List, length, drop, codes, Option, Some, None, take, IfOk, IfErr, OnOk, MatchOption, MatchResult, IsErrOf, Err};
 ghost use Rattle.ac_io.specs.Outside.{Rose};
 ghost use Rattle.ac_wav.specs.Format.{fields_of, fault_of, fscod_of, IsFine};
 ghost use Rattle.ac_wav.specs.Form.{name_of, size_of, padded, whole_length, IsRiff, IsOpen, IsFormatted, IsDataAt, head_of, data_size, IsOfProfile};
-ghost use Rattle.ac_wav.specs.Refusal.{Reaches, IsNoRiff, IsStopped, HeadRead, ReadsExactly};
-ghost use Rattle.ac_wav.specs.Pieces.{IsAt, ReadsOn, IsUntaken, ChunkRead, FormatRead, IsFound, DataFound, TakesAtMost};
+ghost use Rattle.ac_wav.specs.Refusal.{Reaches, IsNoRiff, IsStopped, RefusalLeaves, HeadRead, ReadsExactly};
+ghost use Rattle.ac_io.specs.Within.{IsAt, ReadsOn, TakesAtMost};
+ghost use Rattle.ac_wav.specs.Pieces.{IsUntaken, ChunkRead, FormatRead, IsFound, DataFound};
 ghost use Rattle.ac_wav.specs.declared.fault.WavFault.{WavFault};
 
 use crate::chunk::{ChunkHead, Name, read_chunk_head};
@@ -64,11 +65,13 @@ fn other_name(riff: &[u8; 12]) -> Option<u64>
 
 /// Reads the 12-byte head.
 fn read_riff<S: Source>(input: &mut S, limit: u64) -> Result<(), WavFault>
-    ensures within { OnOk result (12 ≤ limit) }
+    ensures bound { OnOk result (12 ≤ limit) }
     ensures told { (bytes : List ℕ) → S.left input.old ≡ Some bytes → MatchResult result
-        (λ _. IsRiff bytes × IsAt bytes 12 (S.left input.new)) (IsStopped bytes limit) }
-    ensures takes { (bytes : List ℕ) → S.left input.old ≡ Some bytes → TakesAtMost bytes (limit + 1) (S.left input.new) }
-    ensures failed { IsErrOf result WavFault.ReadFault → Rose (S.faults input.old) (S.faults input.new) }
+        (λ _. IsRiff bytes × IsAt bytes 12 (S.left input.new))
+        (λ fault. RefusalLeaves bytes limit fault (S.left input.new)) }
+    ensures cause { (bytes : List ℕ) → S.left input.old ≡ Some bytes → IfErr result (IsStopped bytes limit) }
+    ensures most_read { (bytes : List ℕ) → S.left input.old ≡ Some bytes → TakesAtMost bytes (limit + 1) (S.left input.new) }
+    ensures rose { IsErrOf result WavFault.ReadFault → Rose (S.faults input.old) (S.faults input.new) }
     ensures never_falls { S.faults input.old ≤ S.faults input.new }
 {
     let mut riff = [0; 12];
@@ -87,12 +90,14 @@ fn read_format<S: Source>(
     size: u32,
 ) -> Result<Format, WavFault>
     requires { place + 8 ≤ limit }
-    ensures within { IfOk result (λ _. place + whole_length size ≤ limit) }
+    ensures bound { IfOk result (λ _. place + whole_length size ≤ limit) }
     ensures told { (bytes : List ℕ) → IsAt bytes (place + 8) (S.left input.old) → size ≡ size_of (drop place bytes) → MatchResult result
-        (λ format. FormatRead bytes place format (S.left input.new)) (IsUntaken bytes (place + 8) (padded size) limit) }
+        (λ format. FormatRead bytes place format (S.left input.new))
+        (λ fault. RefusalLeaves bytes limit fault (S.left input.new)) }
+    ensures cause { (bytes : List ℕ) → IsAt bytes (place + 8) (S.left input.old) → size ≡ size_of (drop place bytes) → IfErr result (IsUntaken bytes (place + 8) (padded size) limit) }
     ensures size { IfOk result (λ format. format.size ≡ size) }
-    ensures takes { (bytes : List ℕ) → IsAt bytes (place + 8) (S.left input.old) → TakesAtMost bytes (limit + 1) (S.left input.new) }
-    ensures failed { IsErrOf result WavFault.ReadFault → Rose (S.faults input.old) (S.faults input.new) }
+    ensures most_read { (bytes : List ℕ) → IsAt bytes (place + 8) (S.left input.old) → TakesAtMost bytes (limit + 1) (S.left input.new) }
+    ensures rose { IsErrOf result WavFault.ReadFault → Rose (S.faults input.old) (S.faults input.new) }
     ensures never_falls { S.faults input.old ≤ S.faults input.new }
 {
     let mut body = [0; 40];
@@ -106,12 +111,16 @@ fn read_format<S: Source>(
 /// Reads and tests the first `fmt ` chunk, which begins at `place`.
 fn accept<S: Source>(input: &mut S, place: u64, limit: u64, size: u32) -> Result<Found, WavFault>
     requires { place + 8 ≤ limit }
-    ensures within { IfOk result (λ found. found.end ≤ limit) }
+    ensures bound { IfOk result (λ found. found.end ≤ limit) }
     ensures fine { IfOk result (λ found. fault_of found.format ≡ None) }
     ensures told { (bytes : List ℕ) → IsOpen bytes place → IsAt bytes (place + 8) (S.left input.old) → name_of (drop place bytes) ≡ codes "fmt "
-        → size ≡ size_of (drop place bytes) → MatchResult result (λ found. IsFound bytes found (S.left input.new)) (IsStopped bytes limit) }
-    ensures takes { (bytes : List ℕ) → IsAt bytes (place + 8) (S.left input.old) → TakesAtMost bytes (limit + 1) (S.left input.new) }
-    ensures failed { IsErrOf result WavFault.ReadFault → Rose (S.faults input.old) (S.faults input.new) }
+        → size ≡ size_of (drop place bytes) → MatchResult result
+        (λ found. IsFound bytes found (S.left input.new))
+        (λ fault. RefusalLeaves bytes limit fault (S.left input.new)) }
+    ensures cause { (bytes : List ℕ) → IsOpen bytes place → IsAt bytes (place + 8) (S.left input.old) → name_of (drop place bytes) ≡ codes "fmt "
+        → size ≡ size_of (drop place bytes) → IfErr result (IsStopped bytes limit) }
+    ensures most_read { (bytes : List ℕ) → IsAt bytes (place + 8) (S.left input.old) → TakesAtMost bytes (limit + 1) (S.left input.new) }
+    ensures rose { IsErrOf result WavFault.ReadFault → Rose (S.faults input.old) (S.faults input.new) }
     ensures never_falls { S.faults input.old ≤ S.faults input.new }
 {
     let format = read_format(input, place, limit, size)?;
@@ -133,11 +142,15 @@ fn pass_chunk<S: Source>(
 ) -> Result<u64, WavFault>
     requires { place + 8 ≤ limit }
     ensures value { IfOk result (λ end. end ≡ place + whole_length chunk.now.size) }
-    ensures within { IfOk result (λ end. end ≤ limit) }
+    ensures bound { IfOk result (λ end. end ≤ limit) }
     ensures told { (bytes : List ℕ) → Reaches bytes place → IsAt bytes (place + 8) (S.left input.old) → name_of (drop place bytes) ≢ codes "data"
-        → chunk.now.size ≡ size_of (drop place bytes) → MatchResult result (λ end. IsAt bytes end (S.left input.new)) (IsStopped bytes limit) }
-    ensures takes { (bytes : List ℕ) → IsAt bytes (place + 8) (S.left input.old) → TakesAtMost bytes (limit + 1) (S.left input.new) }
-    ensures failed { IsErrOf result WavFault.ReadFault → Rose (S.faults input.old) (S.faults input.new) }
+        → chunk.now.size ≡ size_of (drop place bytes) → MatchResult result
+        (λ end. IsAt bytes end (S.left input.new))
+        (λ fault. RefusalLeaves bytes limit fault (S.left input.new)) }
+    ensures cause { (bytes : List ℕ) → Reaches bytes place → IsAt bytes (place + 8) (S.left input.old) → name_of (drop place bytes) ≢ codes "data"
+        → chunk.now.size ≡ size_of (drop place bytes) → IfErr result (IsStopped bytes limit) }
+    ensures most_read { (bytes : List ℕ) → IsAt bytes (place + 8) (S.left input.old) → TakesAtMost bytes (limit + 1) (S.left input.new) }
+    ensures rose { IsErrOf result WavFault.ReadFault → Rose (S.faults input.old) (S.faults input.new) }
     ensures never_falls { S.faults input.old ≤ S.faults input.new }
 {
     let padded = chunk.padded();
@@ -148,12 +161,14 @@ fn pass_chunk<S: Source>(
 /// Reads to the end of the first `fmt ` chunk.
 fn find_format<S: Source>(input: &mut S, limit: u64) -> Result<Found, WavFault>
     requires { 12 ≤ limit }
-    ensures within { IfOk result (λ found. found.end ≤ limit) }
+    ensures bound { IfOk result (λ found. found.end ≤ limit) }
     ensures fine { IfOk result (λ found. fault_of found.format ≡ None) }
     ensures told { (bytes : List ℕ) → IsOpen bytes 12 → IsAt bytes 12 (S.left input.old) → MatchResult result
-        (λ found. IsFound bytes found (S.left input.new)) (IsStopped bytes limit) }
-    ensures takes { (bytes : List ℕ) → IsOpen bytes 12 → IsAt bytes 12 (S.left input.old) → TakesAtMost bytes (limit + 1) (S.left input.new) }
-    ensures failed { IsErrOf result WavFault.ReadFault → Rose (S.faults input.old) (S.faults input.new) }
+        (λ found. IsFound bytes found (S.left input.new))
+        (λ fault. RefusalLeaves bytes limit fault (S.left input.new)) }
+    ensures cause { (bytes : List ℕ) → IsOpen bytes 12 → IsAt bytes 12 (S.left input.old) → IfErr result (IsStopped bytes limit) }
+    ensures most_read { (bytes : List ℕ) → IsOpen bytes 12 → IsAt bytes 12 (S.left input.old) → TakesAtMost bytes (limit + 1) (S.left input.new) }
+    ensures rose { IsErrOf result WavFault.ReadFault → Rose (S.faults input.old) (S.faults input.new) }
     ensures never_falls { S.faults input.old ≤ S.faults input.new }
 {
     let mut place = 12;
@@ -170,11 +185,13 @@ fn find_format<S: Source>(input: &mut S, limit: u64) -> Result<Found, WavFault>
 /// Reads to the first byte of the data, from the place behind the `fmt ` chunk on.
 fn find_samples<S: Source>(input: &mut S, start: u64, limit: u64) -> Result<Samples, WavFault>
     requires { start ≤ limit }
-    ensures within { IfOk result (λ samples. samples.place ≤ limit) }
+    ensures bound { IfOk result (λ samples. samples.place ≤ limit) }
     ensures told { (bytes chunk : List ℕ) → IsFormatted bytes chunk start → IsAt bytes start (S.left input.old) → MatchResult result
-        (λ samples. DataFound bytes chunk samples (S.left input.new)) (IsStopped bytes limit) }
-    ensures takes { (bytes chunk : List ℕ) → IsFormatted bytes chunk start → IsAt bytes start (S.left input.old) → TakesAtMost bytes (limit + 1) (S.left input.new) }
-    ensures failed { IsErrOf result WavFault.ReadFault → Rose (S.faults input.old) (S.faults input.new) }
+        (λ samples. DataFound bytes chunk samples (S.left input.new))
+        (λ fault. RefusalLeaves bytes limit fault (S.left input.new)) }
+    ensures cause { (bytes chunk : List ℕ) → IsFormatted bytes chunk start → IsAt bytes start (S.left input.old) → IfErr result (IsStopped bytes limit) }
+    ensures most_read { (bytes chunk : List ℕ) → IsFormatted bytes chunk start → IsAt bytes start (S.left input.old) → TakesAtMost bytes (limit + 1) (S.left input.new) }
+    ensures rose { IsErrOf result WavFault.ReadFault → Rose (S.faults input.old) (S.faults input.new) }
     ensures never_falls { S.faults input.old ≤ S.faults input.new }
 {
     let mut place = start;
@@ -241,12 +258,14 @@ impl WavHead {
     /// and there, `ReadFault` where a read failed.
     pub fn read<S: Source>(input: &mut S, limit: u64) -> Result<WavHead, WavFault>
         ensures told { (bytes : List ℕ) → S.left input.old ≡ Some bytes → MatchResult result
-            (λ head. HeadRead bytes limit head (S.left input.new)) (IsStopped bytes limit) }
-        ensures exact { (bytes : List ℕ) → S.left input.old ≡ Some bytes → result ≢ Err WavFault.ReadFault → ReadsExactly bytes limit result }
+            (λ head. HeadRead bytes limit head (S.left input.new))
+            (λ fault. RefusalLeaves bytes limit fault (S.left input.new)) }
+        ensures cause { (bytes : List ℕ) → S.left input.old ≡ Some bytes → IfErr result (IsStopped bytes limit) }
+        ensures complete { (bytes : List ℕ) → S.left input.old ≡ Some bytes → result ≢ Err WavFault.ReadFault → ReadsExactly bytes limit result }
         ensures profile { IfOk result (λ head. IsOfProfile head) }
-        ensures within { IfOk result (λ head. head.taken ≤ limit) }
-        ensures takes { (bytes : List ℕ) → S.left input.old ≡ Some bytes → TakesAtMost bytes (limit + 1) (S.left input.new) }
-        ensures failed { IsErrOf result WavFault.ReadFault → Rose (S.faults input.old) (S.faults input.new) }
+        ensures bound { IfOk result (λ head. head.taken ≤ limit) }
+        ensures most_read { (bytes : List ℕ) → S.left input.old ≡ Some bytes → TakesAtMost bytes (limit + 1) (S.left input.new) }
+        ensures rose { IsErrOf result WavFault.ReadFault → Rose (S.faults input.old) (S.faults input.new) }
         ensures never_falls { S.faults input.old ≤ S.faults input.new }
     {
         read_riff(input, limit)?;

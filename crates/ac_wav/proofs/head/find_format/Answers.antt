@@ -6,22 +6,22 @@ use Rattle.ac_wav.specs.Pieces.{NameIs}
 use Rattle.ac_wav.proofs.Stops.{no_chunk_stops, no_format_stops, open_next}
 use Rattle.ac_wav.proofs.head.find_format.Goals as goal
 
-pub returns-in_err-chunk-clause-told : goal.returns-in_err-chunk-clause-told
-returns-in_err-chunk-clause-told g c = λ bytes o at.
+pub returns-in_err-chunk-clause-cause : goal.returns-in_err-chunk-clause-cause
+returns-in_err-chunk-clause-cause g c = λ bytes o at.
     let p = err_from_is_err_and c.from_residual.result c.from_residual.ensures.1 in
     let before = c.loop-chunk.invariant.told bytes o at in
-    rw (p.1, p.2) (no_chunk_stops bytes c.loop-chunk.place c.args.limit _ (inl before.0) c.loop-chunk.invariant.room before.1.within (c.in_err-chunk.ensures.told bytes before.1))
+    rw (p.1, p.2) (no_chunk_stops bytes c.loop-chunk.place c.args.limit _ (inl before.0) c.loop-chunk.invariant.room before.1.within (c.in_err-chunk.ensures.cause bytes before.1))
 
-pub returns-in-Samples-clause-told : goal.returns-in-Samples-clause-told
-returns-in-Samples-clause-told g c = λ bytes o at.
+pub returns-in-Samples-clause-cause : goal.returns-in-Samples-clause-cause
+returns-in-Samples-clause-cause g c = λ bytes o at.
     let before = c.loop-chunk.invariant.told bytes o at in
     let r = c.in_ok-chunk.ensures.told bytes before.1 in
     let named = subst (λ (n : Name). NameIs n (name_of (drop c.loop-chunk.place bytes))) c.in-Samples.is r.named in
-    no_format_stops bytes c.loop-chunk.place c.args.limit before.0 c.in_ok-chunk.ensures.within r.at.within named
+    no_format_stops bytes c.loop-chunk.place c.args.limit before.0 c.in_ok-chunk.ensures.bound r.at.within named
 
 pub loop-chunk-preserved : goal.loop-chunk-preserved
 loop-chunk-preserved g c = record {
-  room = c.in_ok-place-in-Other.ensures.within;
+  room = c.in_ok-place-in-Other.ensures.bound;
   told = λ bytes o at.
       let before = c.loop-chunk.invariant.told bytes o at in
       let r = c.in_ok-chunk.ensures.told bytes before.1 in

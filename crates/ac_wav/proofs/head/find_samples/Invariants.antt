@@ -1,6 +1,6 @@
 use Rattle.std.proofs.Common.{◌-◌, ℕ, ◌≤◌, List}
 use Rattle.ac_wav.specs.Form.{IsFormatted}
-use Rattle.ac_wav.specs.Pieces.{IsAt}
+use Rattle.ac_io.specs.Within.{IsAt}
 use Rattle.ac_wav.proofs.head.find_samples.Given as goal
 
 abbrev pub invariant-loop-chunk : goal.invariant-loop-chunk

@@ -1,5 +1,5 @@
 use Rattle.std.proofs.Common.{sym, ◌≡◌, ◌+◌, ℕ, arith, subst, length, length-take, take, replicate, ◌∙◌}
-use Rattle.ac_wav.specs.Pieces.{IsAt}
+use Rattle.ac_io.specs.Within.{IsAt}
 use Rattle.ac_wav.proofs.Fields.{format_read}
 use Rattle.ac_wav.proofs.head.read_format.Goals as goal
 

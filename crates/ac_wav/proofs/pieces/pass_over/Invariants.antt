@@ -1,5 +1,5 @@
 use Rattle.std.proofs.Common.{◌-◌, ℕ, ◌+◌, ◌≤◌, List}
-use Rattle.ac_wav.specs.Pieces.{IsAt}
+use Rattle.ac_io.specs.Within.{IsAt}
 use Rattle.ac_wav.proofs.pieces.pass_over.Given as goal
 
 abbrev pub invariant-loop-done : goal.invariant-loop-done
