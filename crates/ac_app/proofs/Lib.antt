@@ -2,3 +2,4 @@ pub mod Inputs
 pub mod Places
 pub mod Laws
 pub mod Faults
+pub mod Loops

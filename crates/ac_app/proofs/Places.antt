@@ -1,11 +1,12 @@
 -- The places of a frame, and those of the next.
-use Rattle.std.proofs.Common.{◌≡◌, ℕ, suc, ◌+◌, ◌-◌, ◌*◌, ◌/◌, ◌^◌, ◌≤◌, ◌<◌, Bool, List, [], ◌++◌, length, drop, Option, Some, None, Result, Ok, Err, refl, ap, sym, subst, ◌∙◌, arith, inl, inr, ℤ, pos, slice_index_or, append_assoc, unsigned_abs, replicate, lit≤}
+use Rattle.std.proofs.Common.{◌≡◌, ℕ, suc, ◌+◌, ◌-◌, ◌*◌, ◌/◌, ◌^◌, ◌≤◌, ◌<◌, Bool, List, [], ◌++◌, length, drop, Option, Some, None, Result, Ok, Err, refl, ap, sym, subst, ◌∙◌, arith, inl, inr, ℤ, pos, slice_index_or, unsigned_abs, replicate, lit≤}
 use Rattle.std.specs.Prelude.{slice_range, if◌then◌else◌}
 use Rattle.std.proofs.lemmas.Bool.{cases_eq, cases_lt, lt-ltb, le-ltb, ne_eqb}
 use Rattle.std.proofs.lemmas.List.{append-nil, get_or_append_left, get_or-append-add, get_or-drop, get_or-take, get_or-replicate}
 use Rattle.ac_base.specs.Sigma.{Within, Lists}
 use Rattle.ac_enc.specs.Frame.{IsFrame, joined}
 use Rattle.ac_io.specs.Outside.{Adds}
+use Rattle.ac_io.proofs.Written.{adds_both}
 use Rattle.ac_enc.proofs.Places.{frame_same}
 use Rattle.ac_words.specs.declared.meaning.Options.{Options}
 use Rattle.ac_app.specs.Sound.{Sound, sound_at, frame_count}
@@ -88,11 +89,6 @@ adds_nothing : (a : Option (List ℕ)) → Adds a a []
 adds_nothing None = tt
 adds_nothing (Some before) = ap (λ l. Some l) (sym (append-nil before))
 
-pub adds_then : (a b c : Option (List ℕ)) (first second : List ℕ) → Adds a b first → Adds b c second → Adds a c (first ++ second)
-adds_then None b c first second p q = tt
-adds_then (Some before) b c first second p q =
-    subst (λ (o : Option (List ℕ)). Adds o c second) p q ∙ ap (λ l. Some l) (append_assoc before first second)
-
 pub no_frames : (o : Options) (s : Sound) (old : Sinks) → Frames o s 0 old old
 unfolding IsStream
 no_frames o s old = record {
@@ -114,13 +110,13 @@ one_more o s k u old between new f w =
       stream = f.stream ++ w.frame;
       lines = f.lines ++ w.line;
       is_stream = (f.stream, w.frame, f.lines, w.line, f.is_stream, w.is_frame, refl, refl);
-      output = adds_then old.output.bytes between.output.bytes new.output.bytes f.stream w.frame f.output w.emits.0;
-      report = adds_then old.report.bytes between.report.bytes new.report.bytes f.lines w.line f.report w.emits.1;
+      output = adds_both old.output.bytes between.output.bytes new.output.bytes f.stream w.frame f.output w.emits.0;
+      report = adds_both old.report.bytes between.report.bytes new.report.bytes f.lines w.line f.report w.emits.1;
     })
 
-pub stopped : (o : Options) (s : Sound) (count i : ℕ) (broken : Broken) (old between new : Sinks) → i < count → Frames o s i old between
-    → FrameLeaves o s i (Err broken) between new → FramesLeave o s count (Err broken) old new
-stopped o s count i broken old between new below f w = (i, below, (between, f, w))
+pub stopped : (o : Options) (s : Sound) (full count i : ℕ) (broken : Broken) (old between new : Sinks) → full ≤ i → i < count → Frames o s i old between
+    → FrameLeaves o s i (Err broken) between new → FramesLeave o s full count (Err broken) old new
+stopped o s full count i broken old between new least below f w = (i, least, below, (between, f, w))
 
 -- ---- the last frames
 

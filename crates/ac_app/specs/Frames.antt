@@ -1,5 +1,5 @@
 -- What the frames of a sound leave in the output and the report: this project's own rules, over the sync frames of A/52 5.3.
-use Rattle.std.specs.Prelude.{◌≡◌, ℕ, ◌+◌, ◌*◌, ◌<◌, List, [], slice_index_or, Result, Ok, Err, ℤ}
+use Rattle.std.specs.Prelude.{◌≡◌, ℕ, ◌+◌, ◌*◌, ◌<◌, ◌≤◌, List, [], slice_index_or, Result, Ok, Err, ℤ}
 use Rattle.ac_base.specs.Sigma.{Lists}
 use Rattle.ac_io.specs.Outside.{Rose, Adds, AddsFront}
 use Rattle.ac_words.specs.declared.meaning.Options.{Options}
@@ -52,10 +52,10 @@ pub record Frames (o : Options) (s : Sound) (k : ℕ) (old new : Sinks) : Type 0
   pub output : Adds old.output.bytes new.output.bytes stream
   pub report : Adds old.report.bytes new.report.bytes lines
 
--- all frames, or the first k and a front of the next
-abbrev pub FramesLeave : Options → Sound → ℕ → Result (Unit {0}) Broken → Sinks → Sinks → Type 0
-FramesLeave o s count (Ok _) old new = Frames o s count old new
-FramesLeave o s count (Err broken) old new = (k : ℕ) × (k < count) × ((between : Sinks)
+-- all `count` frames, or the first k and a front of the next; the first `full` were there before
+abbrev pub FramesLeave : Options → Sound → ℕ → ℕ → Result (Unit {0}) Broken → Sinks → Sinks → Type 0
+FramesLeave o s full count (Ok _) old new = Frames o s count old new
+FramesLeave o s full count (Err broken) old new = (k : ℕ) × (full ≤ k) × (k < count) × ((between : Sinks)
     × Frames o s k old between × FrameLeaves o s k (Err broken) between new)
 
 -- ---- the frames of every sound that continues what was read

@@ -1,5 +1,5 @@
 -- Which inputs are encoded, and why others are refused: all of it this project's own, but for what acmod and lfeon say.
-use Rattle.std.specs.Prelude.{◌≡◌, ◌⊎◌, ℕ, ◌+◌, ◌-◌, ◌*◌, ◌/◌, ◌^◌, ◌≤◌, min, false, List, length, drop, Option, Some, None}
+use Rattle.std.specs.Prelude.{◌≡◌, ◌⊎◌, ℕ, ◌+◌, ◌*◌, ◌^◌, ◌≤◌, min, false, List}
 use Rattle.ac_wav.specs.declared.fault.WavKind.{WavKind}
 use Rattle.ac_wav.specs.declared.fault.WavKind.TheVariants.{NotYet}
 use Rattle.ac_wav.specs.declared.head.WavHead.{WavHead}
@@ -51,15 +51,6 @@ IsTooLong bytes = NeedsMore bytes limit × HasNoOther bytes
 
 -- ---- how much of it was taken
 
--- the first `taken` bytes were lost, as far as the source still tells what is left
-abbrev pub Lost : List ℕ → ℕ → Option (List ℕ) → Type 0
-Lost bytes taken None = Unit {0}
-Lost bytes taken (Some rest) = (taken ≤ length bytes) × (rest ≡ drop taken bytes)
-
 -- the place behind the samples of the first k frames, or behind the data
 abbrev pub place_behind : WavHead → List ℕ → ℕ → ℕ
 place_behind head bytes k = head.taken + min (1536 * k * align_of head) (data_length head bytes)
-
--- the whole samples of each channel in the data among the first `taken` bytes
-abbrev pub samples_in : WavHead → ℕ → ℕ
-samples_in head taken = (taken - head.taken) / align_of head

@@ -1,6 +1,7 @@
 -- What the loop over the frames of an input leaves, and why it stopped: this project's own rules.
-use Rattle.std.specs.Prelude.{◌≡◌, ℕ, ◌+◌, ◌*◌, ◌≤◌, List, [], length, drop, Some, pos}
+use Rattle.std.specs.Prelude.{◌≡◌, ℕ, ◌+◌, ◌*◌, ◌≤◌, List, length, Some, pos}
 use Rattle.ac_io.specs.Outside.{Rose}
+use Rattle.ac_io.specs.Within.{IsAt}
 use Rattle.ac_wav.specs.declared.fault.WavFault.{WavFault}
 use Rattle.ac_wav.specs.declared.fault.WavFault.TheVariants as wav
 use Rattle.ac_wav.specs.declared.head.WavHead.{WavHead}
@@ -13,7 +14,7 @@ use Rattle.ac_app.specs.declared.status.Status.{Status}
 use Rattle.ac_app.specs.declared.status.Status.TheVariants as statuses
 use Rattle.ac_app.specs.declared.work.Work.{Work}
 use Rattle.ac_app.specs.Frames.{RoseAt, Frames, IsLast, IsOwn, first_row}
-use Rattle.ac_app.specs.Input.{limit, IsRefused, IsTooLong, Lost}
+use Rattle.ac_app.specs.Input.{limit, IsRefused, IsTooLong}
 use Rattle.ac_app.specs.Run.{StopsIn, Breaks}
 use Rattle.ac_app.specs.Sound.{Sound, sound_of}
 use Rattle.ac_app.specs.World.{World}
@@ -36,10 +37,9 @@ pub record AllRead (o : Options) (bytes : List ℕ) (head : WavHead) (read : Rea
 -- why the frames stopped, and what they leave then
 abbrev pub StopLeaves : Options → Stop → List ℕ → World → World → Type 0
 StopLeaves o (stops.Input (wav.Bad kind place)) bytes old new =
-    IsRefused bytes kind place × (new.input.bytes ≡ Some []) × StopsIn o bytes (length bytes) old new
-StopLeaves o (stops.Input wav.ReadFault) bytes old new = (taken : ℕ) × Lost bytes taken new.input.bytes × StopsIn o bytes taken old new
-StopLeaves o (stops.Input wav.TooLong) bytes old new =
-    IsTooLong bytes × (new.input.bytes ≡ Some (drop (limit + 1) bytes)) × StopsIn o bytes (limit + 1) old new
+    IsRefused bytes kind place × IsAt bytes (length bytes) new.input.bytes × StopsIn o bytes old new
+StopLeaves o (stops.Input wav.ReadFault) bytes old new = StopsIn o bytes old new
+StopLeaves o (stops.Input wav.TooLong) bytes old new = IsTooLong bytes × IsAt bytes (limit + 1) new.input.bytes × StopsIn o bytes old new
 StopLeaves o (stops.Sink broken) bytes old new = Breaks o bytes old new
 
 -- a fault of reading or of writing comes only where the count of faults rose

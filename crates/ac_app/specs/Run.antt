@@ -1,10 +1,11 @@
 -- What a run leaves, by its command and its answer, and why each answer came: this project's own rules.
-use Rattle.std.specs.Prelude.{◌≡◌, ◌⊎◌, ℕ, ◌+◌, ◌/◌, ◌<◌, min, Bool, true, false, List, [], ◌++◌, length, drop, Some}
+use Rattle.std.specs.Prelude.{◌≡◌, ◌⊎◌, ℕ, ◌+◌, ◌<◌, Bool, true, false, List, ◌++◌, length, drop, Some}
 use Rattle.ac_base.specs.Rates.{IsRate}
 use Rattle.ac_io.specs.Outside.{Rose, Adds, AddsFront}
+use Rattle.ac_io.specs.Within.{IsAt, TakesAtMost}
 use Rattle.ac_wav.specs.declared.head.WavHead.{WavHead}
 use Rattle.ac_wav.specs.Form.{IsHead}
-use Rattle.ac_wav.specs.Pieces.{TakesAtMost}
+use Rattle.ac_wav.specs.Samples.{FramesTaken}
 use Rattle.ac_wav.specs.Whole.{behind}
 use Rattle.ac_words.specs.Grammar.{Text, InGrammar}
 use Rattle.ac_words.specs.Asked.{GivesCommand}
@@ -15,7 +16,7 @@ use Rattle.ac_app.specs.declared.emit.Broken.{Broken}
 use Rattle.ac_app.specs.declared.status.Status.{Status}
 use Rattle.ac_app.specs.declared.status.Status.TheVariants.{Ok, Usage, BadWav, ReadFault, WriteFault, NoMemory, TooLong}
 use Rattle.ac_app.specs.Frames.{RoseAt, Frames, Added, AddedFront}
-use Rattle.ac_app.specs.Input.{limit, IsBegun, IsInput, IsRefused, IsTooLong, Lost, samples_in, place_behind}
+use Rattle.ac_app.specs.Input.{limit, IsBegun, IsInput, IsRefused, IsTooLong, place_behind}
 use Rattle.ac_app.specs.Lines.{status_line}
 use Rattle.ac_app.specs.Sound.{sound_of, frames_of}
 use Rattle.ac_app.specs.Stream.{IsStream}
@@ -48,12 +49,14 @@ pub record StopsBefore (bytes : List ℕ) (old new : World) : Type 0 where
   pub untaken : (head : WavHead) → IsHead bytes head → TakesAtMost bytes head.taken new.input.bytes
   pub unwritten : new.sinks ≡ old.sinks
 
--- it stopped in the data, and the first `taken` bytes were lost: exactly the whole frames of the samples in them were added.
--- The byte behind the limit isn't counted
-pub record StopsIn (o : Options) (bytes : List ℕ) (taken : ℕ) (old new : World) : Type 0 where
+-- it stopped in the data: exactly the whole frames of the samples in the data bytes taken were added, as far as the source tells
+-- these; the byte behind the limit isn't counted
+pub record StopsIn (o : Options) (bytes : List ℕ) (old new : World) : Type 0 where
   pub head : WavHead
   pub begun : IsBegun bytes head
-  pub added : Added o (sound_of head bytes) (samples_in head (min taken limit) / 1536) old.sinks new.sinks
+  pub count : ℕ
+  pub taken : FramesTaken bytes head limit count new.input.bytes
+  pub added : Added o (sound_of head bytes) count old.sinks new.sinks
 
 -- a write failed: whole frames were added, and a front of the next or of its line. No byte behind that frame's samples was taken
 pub record Breaks (o : Options) (bytes : List ℕ) (old new : World) : Type 0 where
@@ -70,13 +73,12 @@ abbrev pub EncodeLeaves : Options → Status → List ℕ → World → World �
 EncodeLeaves o Ok bytes old new = Encodes o bytes old new
 EncodeLeaves o Usage bytes old new = ⊥
 EncodeLeaves o (BadWav kind place) bytes old new =
-    StopsBefore bytes old new ⊎ ((new.input.bytes ≡ Some []) × StopsIn o bytes (length bytes) old new)
-EncodeLeaves o ReadFault bytes old new =
-    StopsBefore bytes old new ⊎ ((taken : ℕ) × Lost bytes taken new.input.bytes × StopsIn o bytes taken old new)
+    StopsBefore bytes old new ⊎ (IsAt bytes (length bytes) new.input.bytes × StopsIn o bytes old new)
+EncodeLeaves o ReadFault bytes old new = StopsBefore bytes old new ⊎ StopsIn o bytes old new
 EncodeLeaves o WriteFault bytes old new = Breaks o bytes old new
 EncodeLeaves o NoMemory bytes old new = StopsBefore bytes old new
 EncodeLeaves o (TooLong most) bytes old new =
-    StopsBefore bytes old new ⊎ ((new.input.bytes ≡ Some (drop (limit + 1) bytes)) × StopsIn o bytes (limit + 1) old new)
+    StopsBefore bytes old new ⊎ (IsAt bytes (limit + 1) new.input.bytes × StopsIn o bytes old new)
 
 -- why encode has this answer
 abbrev pub EncodeHasCause : Status → List ℕ → Type 0

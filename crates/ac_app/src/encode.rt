@@ -1,7 +1,7 @@
 //! The command encode.
 ghost use Rattle.std.specs.Prelude.{◌≡◌, ◌≢◌, ℕ, ◌+◌, ◌≤◌, true, List, Some};
 ghost use Rattle.ac_base.specs.Rates.{IsRate};
-ghost use Rattle.ac_wav.specs.Pieces.{TakesAtMost};
+ghost use Rattle.ac_io.specs.Within.{TakesAtMost};
 ghost use Rattle.ac_app.specs.Input.{limit, IsMono};
 ghost use Rattle.ac_app.specs.Run.{EncodeLeaves, EncodeHasCause, RoseFor};
 ghost use Rattle.ac_app.specs.Loop.{unread_status};

@@ -3,7 +3,7 @@ ghost use Rattle.std.specs.Prelude.{◌≡◌, ℕ, ◌+◌, ◌*◌, ◌^◌, �
 ghost use Rattle.ac_base.specs.Rates.{IsRate};
 ghost use Rattle.ac_base.specs.Sigma.{Within};
 ghost use Rattle.ac_wav.specs.Form.{IsOfProfile};
-ghost use Rattle.ac_wav.specs.Pieces.{TakesAtMost};
+ghost use Rattle.ac_io.specs.Within.{TakesAtMost};
 ghost use Rattle.ac_wav.specs.Refusal.{HeadRead};
 ghost use Rattle.ac_app.specs.Frames.{RoseAt, Frames, FramesLeave, first_row};
 ghost use Rattle.ac_app.specs.Input.{limit, IsMono};
@@ -133,7 +133,7 @@ fn last_frames<O: Sink, N: Sink>(
     requires row { Within (2 ^ 23) 1536 (first_row work.old) }
     ensures told { (s : Sound) (start : Sinks) → EndsWith s fscod read work.old
         → Frames options s read.frames start (sinks O.held O.faults N.held N.faults output.old report.old)
-        → FramesLeave options s (frames_of s) result start (sinks O.held O.faults N.held N.faults output.new report.new) }
+        → FramesLeave options s read.frames (frames_of s) result start (sinks O.held O.faults N.held N.faults output.new report.new) }
     ensures rose { IfErr result (λ broken. RoseAt broken
         (sinks O.held O.faults N.held N.faults output.old report.old) (sinks O.held O.faults N.held N.faults output.new report.new)) }
     ensures never_falls { SinksNeverFall

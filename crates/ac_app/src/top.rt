@@ -1,6 +1,6 @@
 //! The top call.
 ghost use Rattle.std.specs.Prelude.{◌≡◌, ◌≢◌, ℕ, ◌+◌, ◌≤◌, List, Some, map, string_bytes};
-ghost use Rattle.ac_wav.specs.Pieces.{TakesAtMost};
+ghost use Rattle.ac_io.specs.Within.{TakesAtMost};
 ghost use Rattle.ac_wav.specs.declared.fault.WavKind.{WavKind};
 ghost use Rattle.ac_wav.specs.declared.head.WavHead.{WavHead};
 ghost use Rattle.ac_words.specs.Grammar.{InGrammar};

@@ -21,7 +21,7 @@ returns-in_err-frame-clause-told g c = λ s start ends frames.
     let here = c.in_err-frame.ensures.told s ends.fscod_is i.1 i.2 in
     let count : c.frames_for-count.result ≡ frame_count s.count = c.frames_for-count.ensures ∙ ap frame_count (sym (ends.count ∙ ap (λ n. 1536 * n + c.args.read.rest) (sym c.from.ensures))) in
     let p = err_from_is_err_and c.from_residual.result c.from_residual.ensures.1 in
-    rw (p.1, p.2) (stopped c.args.options s (frame_count s.count) c.loop-i.i _ _ _ _ (omega (arith, c.loop-i-test.true, count)) i.0 here.0)
+    rw (p.1, p.2) (stopped c.args.options s c.args.read.frames (frame_count s.count) c.loop-i.i _ _ _ _ c.loop-i.auto.i (omega (arith, c.loop-i-test.true, count)) i.0 here.0)
 
 pub returns-in_err-frame-clause-rose : goal.returns-in_err-frame-clause-rose
 returns-in_err-frame-clause-rose g c =

@@ -1,0 +1,205 @@
+-- The loop over the frames of an input.
+use Rattle.std.proofs.Common.{◌≡◌, ℕ, suc, ◌+◌, ◌-◌, ◌*◌, ◌/◌, ◌^◌, ◌<◌, ◌≤◌, min, Bool, true, false, List, [], length, drop, Option, Some, Result, Ok, Err, refl, ap, ap₂, sym, subst, ◌∙◌, arith, lit<, inl, inr, ℤ, pos, slice_index_or}
+use Rattle.std.specs.Prelude.{nat_lt, ◌&&◌, if◌then◌else◌}
+use Rattle.std.proofs.lemmas.Bool.{cases_eq, le-ltb, ne_eqb}
+use Rattle.std.proofs.Math.Nat.{le-div_iff_mul-le, div-lt_iff_lt-mul, add-mul}
+use Rattle.std.proofs.lemmas.Nat.{mul-le}
+use Rattle.ac_io.specs.Within.{IsAt}
+use Rattle.ac_wav.specs.declared.body.WavBody.{WavBody}
+use Rattle.ac_wav.specs.declared.fault.WavFault.{WavFault}
+use Rattle.ac_wav.specs.declared.fault.WavFault.TheVariants as wav
+use Rattle.ac_wav.specs.declared.head.WavHead.{WavHead}
+use Rattle.ac_wav.specs.Form.{IsHead}
+use Rattle.ac_wav.specs.Body.{head_in, limit_of, taken_by, IsBehind, StandsBehind}
+use Rattle.ac_wav.specs.Refusal.{HeadRead}
+use Rattle.ac_wav.specs.Samples.{align_of, value_of, offset_of, data_length, sample_count, sample_in, sample_at, SamplesRead, IsUnsampled, UnsampledLeaves, FramesTaken}
+use Rattle.ac_wav.specs.Whole.{end_of, behind, EndsWithin}
+use Rattle.ac_wav.proofs.Whole.{read_at, read_within, read_left, unsampled_refused, unsampled_needs}
+use Rattle.ac_words.specs.declared.meaning.Options.{Options}
+use Rattle.ac_app.specs.declared.emit.Broken.{Broken}
+use Rattle.ac_app.specs.declared.frames.Read.{Read}
+use Rattle.ac_app.specs.declared.frames.Stop.{Stop}
+use Rattle.ac_app.specs.declared.frames.Stop.TheVariants as stops
+use Rattle.ac_app.specs.declared.work.Work.{Work}
+use Rattle.ac_app.specs.Frames.{RoseAt, Frames, FrameLeaves, FramesLeave, AddedFront, IsLast, IsOwn, first_row}
+use Rattle.ac_app.specs.Input.{limit, IsMono, IsBegun, IsInput, place_behind}
+use Rattle.ac_app.specs.Loop.{EndsWith, AllRead, StopLeaves}
+use Rattle.ac_app.specs.Run.{Encodes, StopsIn, Breaks}
+use Rattle.ac_app.specs.Sound.{Sound, sound_of, frame_count, frames_of}
+use Rattle.ac_app.specs.World.{Told, Sinks, World}
+use Rattle.ac_app.proofs.Inputs.{no_other}
+use Rattle.ac_app.proofs.Laws.{of_each, frame_of_each}
+
+-- ---- the state of the loop
+
+-- the source and the body stand behind the samples of the first i frames, and these frames were added
+pub record SoFar (o : Options) (bytes : List ℕ) (head : WavHead) (body : WavBody) (i : ℕ) (last : List ℤ) (left : Option (List ℕ)) (old new : Sinks) : Type 0 where
+  pub stands : StandsBehind bytes body (1536 * i) left
+  pub some : 1536 * i ≤ sample_count head bytes
+  pub before : IsLast (sound_of head bytes) 0 i last
+  pub frames : Frames o (sound_of head bytes) i old new
+
+pub begun_by : (bytes : List ℕ) (head : WavHead) (left : Option (List ℕ)) → IsMono head → HeadRead bytes limit head left → IsBegun bytes head
+begun_by bytes head left mono h = record { begins = h.is; within = h.within; mono = mono }
+
+-- at the first byte of the data
+pub at_first : (bytes : List ℕ) (head : WavHead) (body : WavBody) (left : Option (List ℕ)) → head_in body ≡ head → IsBehind body 0 → HeadRead bytes limit head left → StandsBehind bytes body (1536 * 0) left
+at_first bytes head body left same first h =
+    let start : taken_by body ≡ head.taken = omega (arith, first.taken_is, ap (λ (w : WavHead). w.taken) same) in
+    record { at = subst (λ n. IsAt bytes n left) (sym start) (read_at bytes limit head left h); behind = subst (IsBehind body) (omega arith) first }
+
+-- behind one frame more
+pub one_further : (bytes : List ℕ) (body : WavBody) (i after : ℕ) (left : Option (List ℕ)) → IsBehind body (1536 * i + 1536) → IsAt bytes after left → after ≡ taken_by body → StandsBehind bytes body (1536 * (i + 1)) left
+one_further bytes body i after left stands at e =
+    record { at = subst (λ n. IsAt bytes n left) e at; behind = subst (IsBehind body) (omega arith) stands }
+
+-- ---- samples
+
+and_no : (b : Bool) (z : ℤ) → (if b && false then z else pos 0) ≡ pos 0
+and_no true z = refl
+and_no false z = refl
+
+-- a sample behind the last
+pub past_end : (head : WavHead) (count : ℕ) (bytes : List ℕ) (c j : ℕ) → count ≤ j → sample_in head count bytes c j ≡ pos 0
+unfolding sample_in
+past_end head count bytes c j late =
+    ap (λ b. if nat_lt c head.channels && b then value_of head.bits (drop (offset_of head c j) bytes) else pos 0) (le-ltb j count late)
+    ∙ and_no (nat_lt c head.channels) (value_of head.bits (drop (offset_of head c j) bytes))
+
+-- the first row has the samples of frame i
+pub own_row : (bytes : List ℕ) (head : WavHead) (before i after n : ℕ) (rows : List (List ℤ)) (left : Option (List ℕ)) → SamplesRead bytes head before (1536 * i) after n rows left
+    → IsOwn (sound_of head bytes) 0 i (slice_index_or rows 0 [])
+own_row bytes head before i after n rows left r = r.rows_are 0 (lit< tt)
+
+-- the data ended
+pub all_read : (o : Options) (bytes : List ℕ) (head : WavHead) (before after i n : ℕ) (work : Work) (old new : World) → IsHead bytes head → after ≤ limit → 1536 * i ≤ sample_count head bytes
+    → IsLast (sound_of head bytes) 0 i work.last → Frames o (sound_of head bytes) i old.sinks new.sinks
+    → SamplesRead bytes head before (1536 * i) after n work.rows new.input.bytes → n < 1536 → AllRead o bytes head (record { frames = i; rest = n }) work old new
+all_read o bytes head before after i n work old new h within some last frames r short =
+    let count = r.count in
+    record {
+      wav = read_within bytes head before (1536 * i) after n limit work.rows new.input.bytes h r short within;
+      left = read_left bytes head before (1536 * i) after n work.rows new.input.bytes r short;
+      ends = record {
+        fscod_is = refl;
+        count = omega (arith, count, some, short);
+        silent = λ c j late. past_end head (sample_count head bytes) (drop head.taken bytes) c j late;
+        last = last;
+        row = own_row bytes head before i after n work.rows new.input.bytes r;
+      };
+      frames = frames;
+    }
+
+-- ---- why the samples weren't read
+
+pub unread : (o : Options) (bytes : List ℕ) (head : WavHead) (taken i : ℕ) (fault : WavFault) (old new : World) → IsBegun bytes head → head.taken ≤ taken → taken ≤ limit
+    → IsUnsampled bytes head taken limit fault → UnsampledLeaves bytes head taken limit fault new.input.bytes → FramesTaken bytes head limit i new.input.bytes
+    → Frames o (sound_of head bytes) i old.sinks new.sinks → StopLeaves o (stops.Input fault) bytes old new
+unread o bytes head taken i (wav.Bad kind place) old new b least room u l t f =
+    (inr (unsampled_refused bytes head taken limit kind place b.begins u, no_other bytes head b.begins b.mono), l, record { head = head; begun = b; count = i; taken = t; added = of_each o (sound_of head bytes) i old.sinks new.sinks f })
+unread o bytes head taken i wav.ReadFault old new b least room u l t f =
+    record { head = head; begun = b; count = i; taken = t; added = of_each o (sound_of head bytes) i old.sinks new.sinks f }
+unread o bytes head taken i wav.TooLong old new b least room u l t f =
+    ((unsampled_needs bytes head taken limit b.begins least room u, no_other bytes head b.begins b.mono), l, record { head = head; begun = b; count = i; taken = t; added = of_each o (sound_of head bytes) i old.sinks new.sinks f })
+
+-- ---- a write that failed
+
+more_than : (i n : ℕ) → 1536 * (i + 1) ≤ n → i < frame_count n
+more_than i n some =
+    let any : n ≡ 0 → ⊥ = λ none. omega (arith, none, some) in
+    subst (λ (b : Bool). i < (if b then 0 else (n + 256 + 1535) / 1536)) (sym (ne_eqb n 0 any)) (omega (arith, some))
+
+pub broke : (o : Options) (bytes : List ℕ) (head : WavHead) (k : ℕ) (broken : Broken) (old new : World) (mid : Sinks) → IsBegun bytes head → RoseAt broken old.sinks new.sinks
+    → k < frames_of (sound_of head bytes) → new.input.bytes ≡ Some (drop (place_behind head bytes (k + 1)) bytes)
+    → Frames o (sound_of head bytes) k old.sinks mid → FrameLeaves o (sound_of head bytes) k (Err broken) mid new.sinks → Breaks o bytes old new
+broke o bytes head k broken old new mid b rose fewer left f w =
+    record {
+      head = head;
+      begun = b;
+      broken = broken;
+      rose = rose;
+      added = record {
+        count = k;
+        between = mid;
+        added = of_each o (sound_of head bytes) k old.sinks mid f;
+        frame = w.frame;
+        line = w.line;
+        is_frame = λ s same. frame_of_each o k (sound_of head bytes) s w.frame w.line same w.is_frame;
+        emits = w.emits;
+      };
+      fewer = fewer;
+      left = left;
+    }
+
+-- a full frame's samples lie within the data
+full_within : (head : WavHead) (bytes : List ℕ) (q : ℕ) → 0 < align_of head → q ≤ sample_count head bytes → q * align_of head ≤ data_length head bytes
+full_within head bytes q some h = (le-div_iff_mul-le some).0 h
+
+rest_past : (head : WavHead) (bytes : List ℕ) (q : ℕ) → 0 < align_of head → sample_count head bytes < q → data_length head bytes ≤ q * align_of head
+rest_past head bytes q some h = omega (arith, (div-lt_iff_lt-mul some).0 h)
+
+-- the source stands behind the samples of frame k
+pub behind_full : (bytes : List ℕ) (head : WavHead) (k after : ℕ) (left : Option (List ℕ)) → 0 < align_of head → 1536 * (k + 1) ≤ sample_count head bytes
+    → after ≡ head.taken + 1536 * (k + 1) * align_of head → IsAt bytes after left → left ≡ Some (drop (place_behind head bytes (k + 1)) bytes)
+behind_full bytes head k after left some most e at =
+    let fits = full_within head bytes (1536 * (k + 1)) some most in
+    let same : after ≡ place_behind head bytes (k + 1) = omega (arith, e, fits) in
+    at.left_is ∙ ap (λ n. Some (drop n bytes)) same
+
+-- or behind the data
+pub behind_rest : (bytes : List ℕ) (head : WavHead) (k : ℕ) (left : Option (List ℕ)) → 0 < align_of head → sample_count head bytes < 1536 * (k + 1) → left ≡ Some (behind head bytes)
+    → left ≡ Some (drop (place_behind head bytes (k + 1)) bytes)
+behind_rest bytes head k left some fewer e =
+    let past = rest_past head bytes (1536 * (k + 1)) some fewer in
+    let same : end_of head bytes ≡ place_behind head bytes (k + 1) = omega (arith, past) in
+    e ∙ ap (λ n. Some (drop n bytes)) same
+
+-- a full frame failed
+pub full_broke : (o : Options) (bytes : List ℕ) (head : WavHead) (k after : ℕ) (broken : Broken) (old new : World) (mid : Sinks) → IsBegun bytes head → 0 < align_of head
+    → RoseAt broken old.sinks new.sinks → 1536 * (k + 1) ≤ sample_count head bytes → after ≡ head.taken + 1536 * (k + 1) * align_of head → IsAt bytes after new.input.bytes
+    → Frames o (sound_of head bytes) k old.sinks mid → FrameLeaves o (sound_of head bytes) k (Err broken) mid new.sinks → StopLeaves o (stops.Sink broken) bytes old new
+full_broke o bytes head k after broken old new mid b align rose most e at f w =
+    broke o bytes head k broken old new mid b rose (more_than k (sample_count head bytes) most) (behind_full bytes head k after new.input.bytes align most e at) f w
+
+-- a frame behind the full ones failed
+pub rest_broke : (o : Options) (bytes : List ℕ) (head : WavHead) (read : Read) (work : Work) (broken : Broken) (old mid new : World) → IsBegun bytes head → 0 < align_of head
+    → RoseAt broken old.sinks new.sinks → read.rest < 1536 → new.input ≡ mid.input → AllRead o bytes head read work old mid
+    → FramesLeave o (sound_of head bytes) read.frames (frames_of (sound_of head bytes)) (Err broken) old.sinks new.sinks → StopLeaves o (stops.Sink broken) bytes old new
+rest_broke o bytes head read work broken old mid new b align rose few same a (k, least, below, (between, f, w)) =
+    let count = a.ends.count in
+    let left = ap (λ (t : Told). t.bytes) same ∙ a.left in
+    broke o bytes head k broken old new between b rose below (behind_rest bytes head k new.input.bytes align (omega (arith, count, few, least)) left) f w
+
+-- all frames were added
+pub encodes : (o : Options) (bytes : List ℕ) (head : WavHead) (read : Read) (work : Work) (old mid new : World) → IsMono head → new.input ≡ mid.input → AllRead o bytes head read work old mid
+    → Frames o (sound_of head bytes) (frames_of (sound_of head bytes)) old.sinks new.sinks → Encodes o bytes old new
+encodes o bytes head read work old mid new mono same a f =
+    record {
+      head = head;
+      input = record { wav = a.wav; mono = mono };
+      left = ap (λ (t : Told). t.bytes) same ∙ a.left;
+      frames = f;
+    }
+
+-- ---- how far the loop has come
+
+-- two bytes a sample at least
+pub few : (head : WavHead) (body : WavBody) (i : ℕ) → head_in body ≡ head → 0 < align_of head → taken_by body ≤ limit → IsBehind body (1536 * i) → 1536 * i ≤ limit
+few head body i same some room stands =
+    let a : align_of (head_in body) ≡ align_of head = ap (λ (w : WavHead). align_of w) same in
+    let least : 1536 * i * 1 ≤ 1536 * i * align_of (head_in body) = mul-le (1536 * i) 1 (1536 * i) (align_of (head_in body)) (omega arith) (omega (arith, a, some)) in
+    omega (arith, least, stands.taken_is, room)
+
+-- a full frame takes some bytes
+pub further : (old new : WavBody) (head : WavHead) (i : ℕ) → head_in old ≡ head → head_in new ≡ head_in old → 0 < align_of head → IsBehind old (1536 * i) → IsBehind new (1536 * i + 1536) → taken_by old < taken_by new
+further old new head i same kept some before after =
+    let a : align_of (head_in old) ≡ align_of head = ap (λ (w : WavHead). align_of w) same in
+    let f : taken_by new ≡ (head_in old).taken + (1536 * i + 1536) * align_of (head_in old) = after.taken_is ∙ ap (λ (w : WavHead). w.taken + (1536 * i + 1536) * align_of w) kept in
+    let d : (1536 * i + 1536) * align_of (head_in old) ≡ 1536 * i * align_of (head_in old) + 1536 * align_of (head_in old) = add-mul (1536 * i) 1536 (align_of (head_in old)) in
+    omega (arith, before.taken_is, f, d, a, some)
+
+-- where it stands then
+pub taken_full : (old new : WavBody) (head : WavHead) (i : ℕ) → head_in old ≡ head → head_in new ≡ head_in old → IsBehind new (1536 * i + 1536) → taken_by new ≡ head.taken + 1536 * (i + 1) * align_of head
+taken_full old new head i same kept after =
+    let more : 1536 * i + 1536 ≡ 1536 * (i + 1) = omega arith in
+    after.taken_is ∙ (ap (λ (w : WavHead). w.taken + (1536 * i + 1536) * align_of w) (kept ∙ same) ∙ ap (λ n. head.taken + n * align_of head) more)
