@@ -3,7 +3,7 @@ use Rattle.std.proofs.Common.{◌≡◌, ℕ, ◌+◌, List, ◌++◌, length, O
 use Rattle.ac_base.specs.Rates.{IsRate}
 use Rattle.ac_frame.specs.Plain.{AreBytes}
 use Rattle.ac_io.specs.Outside.{Adds}
-use Rattle.ac_wav.specs.declared.head.WavHead.{WavHead}
+use Rattle.ac_riff.specs.declared.head.WavHead.{WavHead}
 use Rattle.ac_wav.specs.Whole.{behind}
 use Rattle.ac_words.specs.Grammar.{Text, LastWords, encode}
 use Rattle.ac_words.specs.declared.meaning.Command.TheVariants.{Encode}

@@ -6,17 +6,18 @@ use Rattle.std.proofs.lemmas.List.{get_or_append_left, get_or-append-add, get_or
 use Rattle.std.proofs.lemmas.Nat.{mul-le}
 use Rattle.std.proofs.Math.Nat.{add-mul, mul_comm}
 use Rattle.ac_base.specs.Sigma.{Within, Lists}
-use Rattle.ac_wav.specs.declared.fault.WavFault.{WavFault}
-use Rattle.ac_wav.specs.declared.fault.WavFault.TheVariants as wav_faults
+use Rattle.ac_riff.specs.declared.fault.WavFault.{WavFault}
+use Rattle.ac_riff.specs.declared.fault.WavFault.TheVariants as wav_faults
 use Rattle.ac_wav.specs.declared.body.WavBody.{WavBody}
-use Rattle.ac_wav.specs.declared.head.WavHead.{WavHead}
-use Rattle.ac_wav.specs.Layout.{channel_count}
-use Rattle.ac_wav.specs.Form.{IsHead, IsOfProfile}
+use Rattle.ac_riff.specs.declared.head.WavHead.{WavHead}
+use Rattle.ac_riff.specs.Layout.{channel_count}
+use Rattle.ac_riff.specs.Form.{IsHead, IsOfProfile}
 use Rattle.ac_io.specs.Within.{IsAt}
-use Rattle.ac_wav.specs.Refusal.{HeadRead}
+use Rattle.ac_riff.specs.Refusal.{HeadRead}
 use Rattle.ac_wav.specs.Body.{head_in, taken_by, IsBehind}
 use Rattle.ac_wav.specs.Samples.{width_of, align_of, value_of, offset_of, sample_count, sample_in, sample_at, SamplesRead, IsUnsampled}
-use Rattle.ac_wav.proofs.Whole.{taken_within, unsampled_refused, unsampled_needs, read_within, read_left}
+use Rattle.ac_wav.proofs.Whole.{unsampled_refused, unsampled_needs, read_within, read_left}
+use Rattle.ac_riff.proofs.Fronts.{taken_within}
 use Rattle.ac_app.specs.declared.input.Fault.TheVariants as faults
 use Rattle.ac_app.specs.Sound.{AreSamples, sound_of}
 use Rattle.ac_app.specs.Input.{limit, IsMono, AllRead, IsStopped}

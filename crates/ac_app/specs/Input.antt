@@ -1,11 +1,11 @@
 -- Which inputs are encoded, and why others are refused: all of it this project's own, but for what acmod and lfeon say.
 -- At most 2^26 bytes are read.
 use Rattle.std.specs.Prelude.{◌≡◌, ◌⊎◌, ℕ, ◌^◌, ◌≤◌, false, List, Option, Some, ℤ}
-use Rattle.ac_wav.specs.declared.fault.WavKind.{WavKind}
-use Rattle.ac_wav.specs.declared.fault.WavKind.TheVariants.{NotYet}
-use Rattle.ac_wav.specs.declared.fault.WavFault.TheVariants as wav_faults
-use Rattle.ac_wav.specs.declared.head.WavHead.{WavHead}
-use Rattle.ac_wav.specs.Form.{IsHead}
+use Rattle.ac_riff.specs.declared.fault.WavKind.{WavKind}
+use Rattle.ac_riff.specs.declared.fault.WavKind.TheVariants.{NotYet}
+use Rattle.ac_riff.specs.declared.fault.WavFault.TheVariants as wav_faults
+use Rattle.ac_riff.specs.declared.head.WavHead.{WavHead}
+use Rattle.ac_riff.specs.Form.{IsHead}
 use Rattle.ac_wav.specs.Whole.{behind, EndsWithin, RefusedWithin, NeedsMore}
 use Rattle.ac_app.specs.declared.input.Fault.{Fault}
 use Rattle.ac_app.specs.declared.input.Fault.TheVariants as faults

@@ -9,7 +9,7 @@ use Rattle.ac_app.specs.declared.status.Status.{Status}
 use Rattle.ac_app.specs.declared.status.Status.TheVariants.{Ok, Usage, BadWav, ReadFault, WriteFault, NoMemory, TooLong}
 use Rattle.ac_app.specs.declared.frames.Stop.{Stop}
 use Rattle.ac_app.specs.declared.frames.Stop.TheVariants as stops
-use Rattle.ac_wav.specs.declared.head.WavHead.{WavHead}
+use Rattle.ac_riff.specs.declared.head.WavHead.{WavHead}
 use Rattle.ac_wav.specs.Whole.{behind}
 use Rattle.ac_app.specs.Input.{limit, IsInput, Refuses, IsTooLong}
 use Rattle.ac_app.specs.Lines.{status_line}

@@ -1,6 +1,6 @@
 -- The sound of one channel, and the places of it that are transformed.
 use Rattle.std.specs.Prelude.{◌≡◌, ℕ, ◌+◌, ◌-◌, ◌/◌, ◌==◌, nat_lt, if◌then◌else◌, List, length, slice_index_or, ℤ, pos}
-use Rattle.ac_wav.specs.declared.head.WavHead.{WavHead}
+use Rattle.ac_riff.specs.declared.head.WavHead.{WavHead}
 use Rattle.ac_wav.specs.Samples.{sample_count, sample_at}
 
 -- fscod of its sampling rate (A/52 5.4.1.3), its number of samples, and sample j, of 24 bits and 0 behind the last

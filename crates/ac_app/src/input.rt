@@ -2,12 +2,12 @@
 ghost use Rattle.std.specs.Prelude.{◌≡◌, ℕ, ◌+◌, ◌-◌, ◌<◌, ◌≤◌, ◌^◌, List, length, Option, Some, MatchResult, IfOk, OnOk, IsErrOf, true, ◌++◌, take};
 ghost use Rattle.ac_base.specs.Sigma.{Within};
 ghost use Rattle.ac_io.specs.Outside.{Rose};
-ghost use Rattle.ac_wav.specs.Form.{IsOfProfile};
+ghost use Rattle.ac_riff.specs.Form.{IsOfProfile};
 ghost use Rattle.ac_io.specs.Within.{TakesAtMost};
-ghost use Rattle.ac_wav.specs.Refusal.{HeadRead};
+ghost use Rattle.ac_riff.specs.Refusal.{HeadRead};
 ghost use Rattle.ac_app.specs.Input.{limit, IsMono, HasRead, IsStopped, AllRead};
 ghost use Rattle.ac_app.specs.declared.input.Fault.TheVariants as faults;
-ghost use Rattle.ac_wav.specs.declared.fault.WavFault.TheVariants as wav_faults;
+ghost use Rattle.ac_riff.specs.declared.fault.WavFault.TheVariants as wav_faults;
 
 use ac_io::Source;
 use ac_wav::{WavBody, WavFault, WavHead, WavKind};

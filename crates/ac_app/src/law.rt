@@ -3,8 +3,8 @@ ghost use Rattle.std.specs.Prelude.{◌↔◌, ◌≡◌, ◌⊎◌, ℕ, ◌+�
 ghost use Rattle.ac_base.specs.Rates.{IsRate};
 ghost use Rattle.ac_enc.specs.Frame.{IsFrame};
 ghost use Rattle.ac_frame.specs.Plain.{AreBytes};
-ghost use Rattle.ac_wav.specs.declared.fault.WavKind.{WavKind};
-ghost use Rattle.ac_wav.specs.declared.head.WavHead.{WavHead};
+ghost use Rattle.ac_riff.specs.declared.fault.WavKind.{WavKind};
+ghost use Rattle.ac_riff.specs.declared.head.WavHead.{WavHead};
 ghost use Rattle.ac_words.specs.Grammar.{Text};
 ghost use Rattle.ac_app.specs.Input.{IsInput, Refuses, IsTooLong};
 ghost use Rattle.ac_app.specs.Run.{IsDone};

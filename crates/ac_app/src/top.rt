@@ -7,8 +7,8 @@ ghost use Rattle.ac_app.specs.Lines.{status_line};
 ghost use Rattle.ac_app.specs.World.{held};
 ghost use Rattle.ac_app.specs.Run.{rate_asked, counts, JobTakes, JobGives, Tail, answer_of, RunGives, IsDone};
 ghost use Rattle.ac_io.specs.Within.{TakesAtMost};
-ghost use Rattle.ac_wav.specs.declared.fault.WavKind.{WavKind};
-ghost use Rattle.ac_wav.specs.declared.head.WavHead.{WavHead};
+ghost use Rattle.ac_riff.specs.declared.fault.WavKind.{WavKind};
+ghost use Rattle.ac_riff.specs.declared.head.WavHead.{WavHead};
 ghost use Rattle.ac_app.specs.declared.status.Status.TheVariants.{Ok, Usage, BadWav, ReadFault, WriteFault, NoMemory, TooLong};
 
 use crate::encode::encode;

@@ -1,7 +1,7 @@
 use Rattle.ac_app.proofs.Streams.{takes_stream, gives_stream}
 use Rattle.ac_app.specs.Sound.{sound_of}
 use Rattle.std.proofs.Common.{refl, sym, subst}
-use Rattle.ac_wav.specs.declared.fault.WavFault.{WavFault}
+use Rattle.ac_riff.specs.declared.fault.WavFault.{WavFault}
 use Rattle.ac_app.specs.declared.input.Fault.TheVariants as faults
 use Rattle.ac_app.specs.Input.{IsStopped}
 use Rattle.ac_app.proofs.encode.encode.Goals as goal
