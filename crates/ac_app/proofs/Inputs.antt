@@ -2,19 +2,20 @@
 use Rattle.std.proofs.Common.{◌≡◌, ◌⊎◌, ℕ, ◌≤◌, Bool, true, false, List, take, Option, subst, refl, sym, ap, ◌∙◌, arith, lit≤, inl, inr}
 use Rattle.std.specs.Prelude.{◌==◌, if◌then◌else◌}
 use Rattle.std.proofs.lemmas.Bool.{cases_eq, cases_lt}
-use Rattle.ac_wav.specs.declared.fault.WavKind.{WavKind}
-use Rattle.ac_wav.specs.declared.fault.WavKind.TheVariants.{Short, NoData, NotYet}
-use Rattle.ac_wav.specs.declared.fault.WavFault.{WavFault}
-use Rattle.ac_wav.specs.declared.fault.WavFault.TheVariants as wav_faults
-use Rattle.ac_wav.specs.declared.head.WavHead.{WavHead}
-use Rattle.ac_wav.specs.Format.{fscod_of, format_of}
-use Rattle.ac_wav.specs.Form.{IsHead, body_of}
-use Rattle.ac_wav.specs.Refusal as ends
-use Rattle.ac_wav.specs.Refusal.{HeadRead}
+use Rattle.ac_riff.specs.declared.fault.WavKind.{WavKind}
+use Rattle.ac_riff.specs.declared.fault.WavKind.TheVariants.{Short, NoData, NotYet}
+use Rattle.ac_riff.specs.declared.fault.WavFault.{WavFault}
+use Rattle.ac_riff.specs.declared.fault.WavFault.TheVariants as wav_faults
+use Rattle.ac_riff.specs.declared.head.WavHead.{WavHead}
+use Rattle.ac_riff.specs.Format.{fscod_of, format_of}
+use Rattle.ac_riff.specs.Form.{IsHead, body_of}
+use Rattle.ac_riff.specs.Refusal as ends
+use Rattle.ac_riff.specs.Refusal.{HeadRead}
 use Rattle.ac_wav.specs.Whole.{EndsWithin}
-use Rattle.ac_wav.proofs.Endings as heads
-use Rattle.ac_wav.proofs.Each as heads_each
-use Rattle.ac_wav.proofs.Whole.{head_cut, wav_never_both, wav_one_refusal, each_within, never_ends_and_needs, never_refused_and_needs}
+use Rattle.ac_riff.proofs.Endings as heads
+use Rattle.ac_riff.proofs.Each as heads_each
+use Rattle.ac_wav.proofs.Whole.{wav_never_both, wav_one_refusal, each_within, never_ends_and_needs, never_refused_and_needs}
+use Rattle.ac_riff.proofs.Fronts.{head_cut}
 use Rattle.ac_app.specs.Input.{limit, IsMono, IsOther, IsInput, HasNoOther, IsNotYet, IsRefused, IsTooLong}
 use Rattle.ac_app.specs.Run.{EncodeHasCause}
 use Rattle.ac_app.specs.Loop.{unread_status}

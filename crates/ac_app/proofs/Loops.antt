@@ -6,12 +6,12 @@ use Rattle.std.proofs.Math.Nat.{le-div_iff_mul-le, div-lt_iff_lt-mul, add-mul}
 use Rattle.std.proofs.lemmas.Nat.{mul-le}
 use Rattle.ac_io.specs.Within.{IsAt}
 use Rattle.ac_wav.specs.declared.body.WavBody.{WavBody}
-use Rattle.ac_wav.specs.declared.fault.WavFault.{WavFault}
-use Rattle.ac_wav.specs.declared.fault.WavFault.TheVariants as wav
-use Rattle.ac_wav.specs.declared.head.WavHead.{WavHead}
-use Rattle.ac_wav.specs.Form.{IsHead}
+use Rattle.ac_riff.specs.declared.fault.WavFault.{WavFault}
+use Rattle.ac_riff.specs.declared.fault.WavFault.TheVariants as wav
+use Rattle.ac_riff.specs.declared.head.WavHead.{WavHead}
+use Rattle.ac_riff.specs.Form.{IsHead}
 use Rattle.ac_wav.specs.Body.{head_in, limit_of, taken_by, IsBehind, StandsBehind}
-use Rattle.ac_wav.specs.Refusal.{HeadRead}
+use Rattle.ac_riff.specs.Refusal.{HeadRead}
 use Rattle.ac_wav.specs.Samples.{align_of, value_of, offset_of, data_length, sample_count, sample_in, sample_at, SamplesRead, IsUnsampled, UnsampledLeaves, FramesTaken}
 use Rattle.ac_wav.specs.Whole.{end_of, behind, EndsWithin}
 use Rattle.ac_wav.proofs.Whole.{read_at, read_within, read_left, unsampled_refused, unsampled_needs}

@@ -1,9 +1,9 @@
 -- Which inputs are encoded, and why others are refused: all of it this project's own, but for what acmod and lfeon say.
 use Rattle.std.specs.Prelude.{◌≡◌, ◌⊎◌, ℕ, ◌+◌, ◌*◌, ◌^◌, ◌≤◌, min, false, List}
-use Rattle.ac_wav.specs.declared.fault.WavKind.{WavKind}
-use Rattle.ac_wav.specs.declared.fault.WavKind.TheVariants.{NotYet}
-use Rattle.ac_wav.specs.declared.head.WavHead.{WavHead}
-use Rattle.ac_wav.specs.Form.{IsHead}
+use Rattle.ac_riff.specs.declared.fault.WavKind.{WavKind}
+use Rattle.ac_riff.specs.declared.fault.WavKind.TheVariants.{NotYet}
+use Rattle.ac_riff.specs.declared.head.WavHead.{WavHead}
+use Rattle.ac_riff.specs.Form.{IsHead}
 use Rattle.ac_wav.specs.Samples.{align_of, data_length}
 use Rattle.ac_wav.specs.Whole.{EndsWithin, RefusedWithin, NeedsMore}
 

@@ -1,7 +1,7 @@
 -- The report, this project's own: a line for each frame, and the status line. Each line ends with a line feed.
 use Rattle.std.specs.Prelude.{ℕ, List, ◌++◌, codes, decimal}
-use Rattle.ac_wav.specs.declared.fault.WavKind.{WavKind}
-use Rattle.ac_wav.specs.declared.fault.WavKind.TheVariants as kinds
+use Rattle.ac_riff.specs.declared.fault.WavKind.{WavKind}
+use Rattle.ac_riff.specs.declared.fault.WavKind.TheVariants as kinds
 use Rattle.ac_app.specs.declared.status.Status.{Status}
 use Rattle.ac_app.specs.declared.status.Status.TheVariants as statuses
 

@@ -2,9 +2,9 @@
 use Rattle.std.specs.Prelude.{◌≡◌, ℕ, ◌+◌, ◌*◌, ◌≤◌, List, length, Some, pos}
 use Rattle.ac_io.specs.Outside.{Rose}
 use Rattle.ac_io.specs.Within.{IsAt}
-use Rattle.ac_wav.specs.declared.fault.WavFault.{WavFault}
-use Rattle.ac_wav.specs.declared.fault.WavFault.TheVariants as wav
-use Rattle.ac_wav.specs.declared.head.WavHead.{WavHead}
+use Rattle.ac_riff.specs.declared.fault.WavFault.{WavFault}
+use Rattle.ac_riff.specs.declared.fault.WavFault.TheVariants as wav
+use Rattle.ac_riff.specs.declared.head.WavHead.{WavHead}
 use Rattle.ac_wav.specs.Whole.{behind, EndsWithin}
 use Rattle.ac_words.specs.declared.meaning.Options.{Options}
 use Rattle.ac_app.specs.declared.frames.Read.{Read}

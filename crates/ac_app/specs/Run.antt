@@ -3,8 +3,8 @@ use Rattle.std.specs.Prelude.{◌≡◌, ◌⊎◌, ℕ, ◌+◌, ◌<◌, Bool,
 use Rattle.ac_base.specs.Rates.{IsRate}
 use Rattle.ac_io.specs.Outside.{Rose, Adds, AddsFront}
 use Rattle.ac_io.specs.Within.{IsAt, TakesAtMost}
-use Rattle.ac_wav.specs.declared.head.WavHead.{WavHead}
-use Rattle.ac_wav.specs.Form.{IsHead}
+use Rattle.ac_riff.specs.declared.head.WavHead.{WavHead}
+use Rattle.ac_riff.specs.Form.{IsHead}
 use Rattle.ac_wav.specs.Samples.{FramesTaken}
 use Rattle.ac_wav.specs.Whole.{behind}
 use Rattle.ac_words.specs.Grammar.{Text, InGrammar}

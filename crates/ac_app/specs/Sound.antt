@@ -1,6 +1,6 @@
 -- The sound of up to six channels, and the places of it that are transformed.
 use Rattle.std.specs.Prelude.{◌≡◌, ℕ, ◌+◌, ◌-◌, ◌/◌, ◌<◌, ◌==◌, nat_lt, if◌then◌else◌, Bool, List, ℤ, pos}
-use Rattle.ac_wav.specs.declared.head.WavHead.{WavHead}
+use Rattle.ac_riff.specs.declared.head.WavHead.{WavHead}
 use Rattle.ac_wav.specs.Samples.{sample_count, sample_at}
 
 -- fscod of its sampling rate (A/52 5.4.1.3), its layout (A/52 5.4.2.3 and 5.4.2.7), its number of samples of each channel, and

@@ -2,9 +2,9 @@
 ghost use Rattle.std.specs.Prelude.{◌≡◌, ℕ, ◌+◌, ◌*◌, ◌^◌, ◌<◌, ◌≤◌, List, replicate, pos, Some, IfOk, IfErr, MatchResult};
 ghost use Rattle.ac_base.specs.Rates.{IsRate};
 ghost use Rattle.ac_base.specs.Sigma.{Within};
-ghost use Rattle.ac_wav.specs.Form.{IsOfProfile};
+ghost use Rattle.ac_riff.specs.Form.{IsOfProfile};
 ghost use Rattle.ac_io.specs.Within.{TakesAtMost};
-ghost use Rattle.ac_wav.specs.Refusal.{HeadRead};
+ghost use Rattle.ac_riff.specs.Refusal.{HeadRead};
 ghost use Rattle.ac_app.specs.Frames.{RoseAt, Frames, FramesLeave, first_row};
 ghost use Rattle.ac_app.specs.Input.{limit, IsMono};
 ghost use Rattle.ac_app.specs.Loop.{EndsWith, AllRead, StopLeaves, StopRose};

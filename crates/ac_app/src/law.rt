@@ -2,8 +2,8 @@
 ghost use Rattle.std.specs.Prelude.{◌↔◌, ◌≡◌, ◌⊎◌, ℕ, ◌+◌, ◌*◌, ◌<◌, ◌≤◌, List, ◌++◌, length, take, drop, Some};
 ghost use Rattle.ac_base.specs.Rates.{IsRate};
 ghost use Rattle.ac_frame.specs.Plain.{AreBytes};
-ghost use Rattle.ac_wav.specs.declared.fault.WavKind.{WavKind};
-ghost use Rattle.ac_wav.specs.declared.head.WavHead.{WavHead};
+ghost use Rattle.ac_riff.specs.declared.fault.WavKind.{WavKind};
+ghost use Rattle.ac_riff.specs.declared.head.WavHead.{WavHead};
 ghost use Rattle.ac_words.specs.Grammar.{Text};
 ghost use Rattle.ac_words.specs.declared.meaning.Options.{Options};
 ghost use Rattle.ac_app.specs.Input.{IsInput, IsRefused, IsTooLong};

@@ -1,8 +1,8 @@
 //! The top call.
 ghost use Rattle.std.specs.Prelude.{◌≡◌, ◌≢◌, ℕ, ◌+◌, ◌≤◌, List, Some, map, string_bytes};
 ghost use Rattle.ac_io.specs.Within.{TakesAtMost};
-ghost use Rattle.ac_wav.specs.declared.fault.WavKind.{WavKind};
-ghost use Rattle.ac_wav.specs.declared.head.WavHead.{WavHead};
+ghost use Rattle.ac_riff.specs.declared.fault.WavKind.{WavKind};
+ghost use Rattle.ac_riff.specs.declared.head.WavHead.{WavHead};
 ghost use Rattle.ac_words.specs.Grammar.{InGrammar};
 ghost use Rattle.ac_words.specs.declared.meaning.Options.{Options};
 ghost use Rattle.ac_app.specs.Input.{limit, IsInput, IsRefused, IsTooLong};

@@ -1,48 +1,14 @@
 -- The readers answer the refusal whose cause is there.
-use Rattle.std.proofs.Common.{◌≡◌, ◌≢◌, ◌⊎◌, ℕ, ◌+◌, ◌-◌, ◌*◌, ◌/◌, ◌≤◌, ◌<◌, List, length, take, Option, Result, Ok, Err, inl, inr, refl, ap, ◌∙◌, arith}
-use Rattle.std.specs.Prelude.{MatchResult, ℤ}
+use Rattle.std.proofs.Common.{◌≡◌, ◌≢◌, ◌⊎◌, ℕ, ◌+◌, ◌-◌, ◌*◌, ◌/◌, ◌≤◌, ◌<◌, List, length, Option, Result, Ok, Err, inl, inr, refl, ap, arith}
+use Rattle.std.specs.Prelude.{ℤ}
 use Rattle.std.proofs.lemmas.Bool.{cases_lt}
 use Rattle.std.proofs.Math.Nat.{div-mul-le_self}
-use Rattle.ac_wav.specs.declared.fault.WavKind.{WavKind}
-use Rattle.ac_wav.specs.declared.fault.WavKind.TheVariants.{Short, NotRiff, NoFmt, NoData, BadFmt, Unsupported, NotYet}
-use Rattle.ac_wav.specs.declared.fault.WavFault.{WavFault}
-use Rattle.ac_wav.specs.declared.fault.WavFault.TheVariants.{Bad, ReadFault, TooLong}
-use Rattle.ac_wav.specs.declared.head.WavHead.{WavHead}
-use Rattle.ac_wav.specs.Form.{IsHead}
-use Rattle.ac_wav.specs.Refusal.{Refuses, IsTooLong, IsStopped, HeadRead, ReadsExactly}
+use Rattle.ac_riff.specs.declared.fault.WavKind.TheVariants.{Short, NotRiff, NoFmt, NoData, BadFmt, Unsupported, NotYet}
+use Rattle.ac_riff.specs.declared.fault.WavFault.{WavFault}
+use Rattle.ac_riff.specs.declared.fault.WavFault.TheVariants.{Bad, ReadFault, TooLong}
+use Rattle.ac_riff.specs.declared.head.WavHead.{WavHead}
 use Rattle.ac_wav.specs.Samples.{align_of, data_length, frame_bytes, SamplesRead, IsUnsampled, StopsExactly}
-use Rattle.ac_wav.proofs.Endings.{never_both, one_head, one_refusal}
-use Rattle.ac_wav.proofs.Whole.{head_cut, never_refused_and_needs, stopped_needs, part_most, asked_within}
-
--- ---- heads
-
-refused_not_long : (bytes : List ℕ) (limit : ℕ) (kind : WavKind) (place : ℕ) → Refuses bytes kind place → Refuses (take limit bytes) kind place → IsTooLong bytes limit → ⊥
-refused_not_long bytes limit kind place r s t = never_refused_and_needs bytes kind place limit (inl r, inl s) (stopped_needs bytes limit t)
-
-head_not_long : (bytes : List ℕ) (limit : ℕ) (head : WavHead) → IsHead bytes head → head.taken ≤ limit → IsTooLong bytes limit → ⊥
-head_not_long bytes limit head h k (more, inl r) = never_both (take limit bytes) head Short limit (head_cut bytes head limit h k) r
-head_not_long bytes limit head h k (more, inr r) = never_both (take limit bytes) head NoData limit (head_cut bytes head limit h k) r
-
-pub read_exactly : (bytes : List ℕ) (limit : ℕ) (left : Option (List ℕ)) (result : Result WavHead WavFault)
-    → MatchResult result (λ head. HeadRead bytes limit head left) (IsStopped bytes limit) → result ≢ Err ReadFault → ReadsExactly bytes limit result
-read_exactly bytes limit left (Ok head) r nf = record {
-  too_long = λ t. absurd (head_not_long bytes limit head r.is r.within t);
-  refused = λ kind place s u. absurd (never_both bytes head kind place r.is s);
-  accepted = λ other h k. ap (λ (x : WavHead). Ok x) (one_head bytes head other r.is h);
-}
-read_exactly bytes limit left (Err (Bad kind place)) r nf = record {
-  too_long = λ t. absurd (refused_not_long bytes limit kind place r.0 r.1 t);
-  refused = λ other there s u.
-      let same = one_refusal bytes kind other place there r.0 s in
-      ap (λ (k : WavKind). Err (Bad k place)) same.0 ∙ ap (λ (p : ℕ). Err (Bad other p)) same.1;
-  accepted = λ head h k. absurd (never_both bytes head kind place h r.0);
-}
-read_exactly bytes limit left (Err ReadFault) r nf = absurd (nf refl)
-read_exactly bytes limit left (Err TooLong) r nf = record {
-  too_long = λ _. refl;
-  refused = λ kind place s u. absurd (refused_not_long bytes limit kind place s u r);
-  accepted = λ head h k. absurd (head_not_long bytes limit head h k r);
-}
+use Rattle.ac_wav.proofs.Whole.{part_most, asked_within}
 
 -- ---- samples
 

@@ -1,14 +1,6 @@
-pub mod Chunks
-pub mod Stops
-pub mod Fields
-pub mod Fine
 pub mod Rooms
 pub mod Rows
 pub mod Writes
-pub mod Unique
-pub mod Ways
-pub mod Endings
-pub mod Each
 pub mod Whole
-pub mod Exact
 pub mod Taken
+pub mod Exact

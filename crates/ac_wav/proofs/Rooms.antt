@@ -3,9 +3,9 @@ use Rattle.std.proofs.Common.{◌≡◌, ℕ, zero, suc, ◌+◌, ◌*◌, ◌/�
 use Rattle.std.specs.Prelude.{nat_lt, ◌&&◌}
 use Rattle.std.proofs.lemmas.Bool.{ltb-true}
 use Rattle.std.proofs.Math.Nat.{mul-le-mul_right, div-mul-le_self}
-use Rattle.ac_wav.specs.declared.head.WavHead.{WavHead}
-use Rattle.ac_wav.specs.Layout.{order_of, channel_count}
-use Rattle.ac_wav.specs.Form.{IsOfProfile}
+use Rattle.ac_riff.specs.declared.head.WavHead.{WavHead}
+use Rattle.ac_riff.specs.Layout.{order_of, channel_count}
+use Rattle.ac_riff.specs.Form.{IsOfProfile}
 use Rattle.ac_wav.specs.Samples.{align_of, width_of, offset_of}
 
 abbrev all_lt : ℕ → List ℕ → Bool

@@ -7,10 +7,11 @@ use Rattle.std.proofs.lemmas.Nat.{le-div, div_below}
 use Rattle.std.proofs.Math.Nat.{mul-add-div_right, div-eq_of_lt, add-mul}
 use Rattle.byteorder.specs.Endian.{little_number, twos_complement}
 use Rattle.byteorder.specs.Numbers.{little_from-take}
-use Rattle.ac_wav.specs.declared.head.WavHead.{WavHead}
-use Rattle.ac_wav.specs.Form.{IsOfProfile, stated}
+use Rattle.ac_riff.specs.declared.head.WavHead.{WavHead}
+use Rattle.ac_riff.specs.Form.{IsOfProfile}
+use Rattle.ac_wav.specs.Samples.{stated}
 use Rattle.ac_wav.specs.Samples.{align_of, width_of, value_of, offset_of, sample_in, data_length, RowsAre, RowsWithin, part_of, SamplesRead, PartRead}
-use Rattle.ac_wav.proofs.Chunks.{from_cut}
+use Rattle.ac_riff.proofs.Chunks.{from_cut}
 use Rattle.ac_wav.proofs.Rooms.{offset_room}
 
 -- a sample that is there

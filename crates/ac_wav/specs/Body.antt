@@ -2,8 +2,8 @@
 use Rattle.std.specs.Prelude.{◌≡◌, ℕ, ◌+◌, ◌*◌, nat_lt, Bool, ◌||◌, false, List, Option, None}
 use Rattle.ac_io.specs.Within.{IsAt}
 use Rattle.ac_wav.specs.declared.body.WavBody.{WavBody}
-use Rattle.ac_wav.specs.declared.fault.WavFault.{WavFault}
-use Rattle.ac_wav.specs.declared.head.WavHead.{WavHead}
+use Rattle.ac_riff.specs.declared.fault.WavFault.{WavFault}
+use Rattle.ac_riff.specs.declared.head.WavHead.{WavHead}
 use Rattle.ac_wav.specs.Samples.{align_of}
 
 -- the head of the WAV

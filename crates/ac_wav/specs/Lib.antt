@@ -1,8 +1,3 @@
-pub mod Layout
-pub mod Format
-pub mod Form
-pub mod Refusal
-pub mod Pieces
 pub mod Samples
 pub mod Body
 pub mod Whole

@@ -2,11 +2,10 @@
 -- 24 bits, by coded channels, LFE last. Those of 16 bits are multiplied by 256, which is this project's own.
 use Rattle.std.specs.Prelude.{◌≡◌, ℕ, ◌+◌, ◌-◌, ◌*◌, ◌/◌, ◌^◌, ◌<◌, ◌≤◌, min, ◌==◌, ◌&&◌, nat_lt, if◌then◌else◌, List, [], length, drop, take, slice_index, slice_index_or, Option, Some, None, Result, Err, ℤ, pos, ◌*ℤ◌, unsigned_abs}
 use Rattle.byteorder.specs.Endian.{little_number, twos_complement}
-use Rattle.ac_wav.specs.declared.fault.WavKind.TheVariants.{Short, NotRiff, NoFmt, NoData, BadFmt, Unsupported, NotYet}
-use Rattle.ac_wav.specs.declared.fault.WavFault.{WavFault}
-use Rattle.ac_wav.specs.declared.fault.WavFault.TheVariants.{Bad, ReadFault, TooLong}
-use Rattle.ac_wav.specs.declared.head.WavHead.{WavHead}
-use Rattle.ac_wav.specs.Form.{stated}
+use Rattle.ac_riff.specs.declared.fault.WavKind.TheVariants.{Short, NotRiff, NoFmt, NoData, BadFmt, Unsupported, NotYet}
+use Rattle.ac_riff.specs.declared.fault.WavFault.{WavFault}
+use Rattle.ac_riff.specs.declared.fault.WavFault.TheVariants.{Bad, ReadFault, TooLong}
+use Rattle.ac_riff.specs.declared.head.WavHead.{WavHead}
 use Rattle.ac_io.specs.Within.{IsAt, StandsIn}
 
 -- the bytes of one sample
@@ -27,9 +26,15 @@ offset_of head c j = j * align_of head + slice_index head.order c * width_of hea
 
 -- sample j of coded channel c among `count` whole samples in these bytes; 0 elsewhere
 unfoldable pub sample_in : WavHead → ℕ → List ℕ → ℕ → ℕ → ℤ
-sample_in head count bytes c j = if nat_lt c head.channels && nat_lt j count then value_of head.bits (drop (offset_of head c j) bytes) else pos 0
+sample_in head count bytes c j =
+    if nat_lt c head.channels && nat_lt j count then value_of head.bits (drop (offset_of head c j) bytes) else pos 0
 
--- the number of bytes of the data
+-- the number of bytes of the data: as stated, or all that is there (RIFF WAVE, `data` chunk)
+abbrev pub stated : Option ℕ → ℕ → ℕ
+stated None there = there
+stated (Some size) there = size
+
+-- the number of bytes of the data behind a head
 abbrev pub data_length : WavHead → List ℕ → ℕ
 data_length head bytes = stated head.size (length bytes - head.taken)
 
@@ -69,7 +74,8 @@ abbrev pub frame_bytes : WavHead → ℕ → ℕ
 frame_bytes head taken = part_of head.size (1536 * align_of head) (taken - head.taken)
 
 -- the next n samples of each channel, from sample `from` on, were read behind the first `before` bytes, and now `after` are taken
-pub record SamplesRead (bytes : List ℕ) (head : WavHead) (before «from» after n : ℕ) (rows : List (List ℤ)) (left : Option (List ℕ)) : Type 0 where
+pub record SamplesRead (bytes : List ℕ) (head : WavHead) (before «from» after n : ℕ) (rows : List (List ℤ))
+    (left : Option (List ℕ)) : Type 0 where
   pub count : n ≡ min 1536 (sample_count head bytes - «from»)
   pub rows_are : RowsAre (λ c t. sample_at head bytes c («from» + t)) rows
   pub at : IsAt bytes after left
@@ -105,7 +111,8 @@ samples_taken head limit taken = (min taken limit - head.taken) / align_of head
 -- channel, and no more (A/52 5.3)
 abbrev pub FramesTaken : List ℕ → WavHead → ℕ → ℕ → Option (List ℕ) → Type 0
 FramesTaken bytes head limit frames None = Unit {0}
-FramesTaken bytes head limit frames (Some rest) = (taken : ℕ) × IsAt bytes taken (Some rest) × (frames ≡ samples_taken head limit taken / 1536)
+FramesTaken bytes head limit frames (Some rest) = (taken : ℕ) × IsAt bytes taken (Some rest)
+    × (frames ≡ samples_taken head limit taken / 1536)
 
 -- where no read fails, the answer is the refusal whose cause is there
 pub record StopsExactly (bytes : List ℕ) (head : WavHead) (before limit : ℕ) (result : Result ℕ WavFault) : Type 0 where

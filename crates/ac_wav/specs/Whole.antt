@@ -1,16 +1,21 @@
 -- The WAV as a whole (RIFF WAVE): its head and all its data, or why it is refused, and what is known of it from the bytes up
 -- to a limit. The refusals and the limit are this project's own.
 use Rattle.std.specs.Prelude.{◌≡◌, ℕ, ◌+◌, ◌≤◌, ◌<◌, ◌⊎◌, List, length, take, drop, None}
-use Rattle.ac_wav.specs.declared.fault.WavKind.{WavKind}
-use Rattle.ac_wav.specs.declared.fault.WavKind.TheVariants.{Short, NoData}
-use Rattle.ac_wav.specs.declared.head.WavHead.{WavHead}
-use Rattle.ac_wav.specs.Form.{IsHead, IsWav}
-use Rattle.ac_wav.specs.Refusal.{Refuses}
+use Rattle.ac_riff.specs.declared.fault.WavKind.{WavKind}
+use Rattle.ac_riff.specs.declared.fault.WavKind.TheVariants.{Short, NoData}
+use Rattle.ac_riff.specs.declared.head.WavHead.{WavHead}
+use Rattle.ac_riff.specs.Form.{IsHead}
+use Rattle.ac_riff.specs.Refusal.{Refuses}
 use Rattle.ac_wav.specs.Samples.{data_length}
 
 -- the place behind the data
 abbrev pub end_of : WavHead → List ℕ → ℕ
 end_of head bytes = head.taken + data_length head bytes
+
+-- the list is a WAV: a head and all its data, and any rest
+pub record IsWav (bytes : List ℕ) (head : WavHead) : Type 0 where
+  pub begins : IsHead bytes head
+  pub whole : end_of head bytes ≤ length bytes
 
 -- the bytes behind the data, which aren't looked at
 abbrev pub behind : WavHead → List ℕ → List ℕ

@@ -3,8 +3,8 @@
 use Rattle.std.specs.Prelude.{ℕ, zero, suc, ◌+◌, ◌*◌, Bool, if◌then◌else◌, List, [], ◌∷◌, ◌++◌, codes, slice_index, slice_index_or, ℤ, pos}
 use Rattle.std.specs.Int.{w64}
 use Rattle.byteorder.specs.Endian.{little_bytes, low_bytes}
-use Rattle.ac_wav.specs.Layout.{channel_count, first_mask, coded_of}
-use Rattle.ac_wav.specs.Format.{pcm_subformat}
+use Rattle.ac_riff.specs.Layout.{channel_count, first_mask, coded_of}
+use Rattle.ac_riff.specs.Format.{pcm_subformat}
 
 -- ---- the head
 
@@ -53,7 +53,8 @@ sample_bytes z = little_bytes 3 (low_bytes w64 3 z)
 -- sample t of the channels at the first n places of this order
 unfoldable pub places_bytes : List (List ℤ) → List ℕ → ℕ → ℕ → List ℕ
 places_bytes rows coded t zero = []
-places_bytes rows coded t (suc p) = places_bytes rows coded t p ++ sample_bytes (slice_index_or (slice_index_or rows (slice_index coded p) []) t (pos 0))
+places_bytes rows coded t (suc p) =
+    places_bytes rows coded t p ++ sample_bytes (slice_index_or (slice_index_or rows (slice_index coded p) []) t (pos 0))
 
 -- the first n samples of all channels
 unfoldable pub samples_bytes : List (List ℤ) → List ℕ → ℕ → ℕ → List ℕ

@@ -1,16 +1,14 @@
 //! The samples of a WAV, read piece by piece.
 ghost use Rattle.std.specs.Prelude.{◌≡◌, ℕ, ◌+◌, ◌*◌, ◌≤◌, List, IfOk, IfErr, MatchResult, IsErrOf};
 ghost use Rattle.ac_io.specs.Outside.{Rose};
-ghost use Rattle.ac_wav.specs.Form.{IsOfProfile};
+ghost use Rattle.ac_riff.specs.Form.{IsOfProfile};
 ghost use Rattle.ac_io.specs.Within.{IsAt, TakesAtMost};
 ghost use Rattle.ac_wav.specs.Samples.{align_of, frame_bytes, part_of, RowsWithin, RowsAre, SamplesRead, IsUnsampled, UnsampledLeaves, IsStanding, PartRead};
-ghost use Rattle.ac_wav.specs.declared.fault.WavFault.{WavFault};
+ghost use Rattle.ac_riff.specs.declared.fault.WavFault.{WavFault};
 
-use crate::fault::{WavFault, WavKind};
-use crate::head::WavHead;
-use crate::pieces::read_piece;
 use crate::samples::{align, spread};
 use ac_io::Source;
+use ac_riff::{WavFault, WavHead, WavKind, read_piece};
 
 /// What one piece of the data gave.
 #[derive(Clone, Copy)]

@@ -1,16 +1,15 @@
 //! The samples of a WAV behind its head, 1,536 of each channel at a time.
 ghost use Rattle.std.specs.Prelude.{◌≡◌, ◌≢◌, ℕ, ◌+◌, ◌*◌, ◌≤◌, List, nat_lt, Option, Some, None, IfOk, IfErr, MatchResult, IsErrOf, true, Ok, Err, replicate, pos, ◌||◌};
 ghost use Rattle.ac_io.specs.Outside.{Rose};
-ghost use Rattle.ac_wav.specs.Form.{IsOfProfile};
+ghost use Rattle.ac_riff.specs.Form.{IsOfProfile};
 ghost use Rattle.ac_io.specs.Within.{IsAt, TakesAtMost};
 ghost use Rattle.ac_wav.specs.Samples.{RowsWithin, SamplesRead, IsUnsampled, UnsampledLeaves, FramesTaken, StopsExactly};
 ghost use Rattle.ac_wav.specs.Body.{head_in, limit_of, taken_by, is_ended, kept_by, IsBehind, StandsBehind, EndsAt};
-ghost use Rattle.ac_wav.specs.declared.fault.WavFault.{WavFault};
+ghost use Rattle.ac_riff.specs.declared.fault.WavFault.{WavFault};
 
 use super::{WavBody, read_samples};
-use crate::fault::WavFault;
-use crate::head::WavHead;
 use ac_io::Source;
+use ac_riff::{WavFault, WavHead};
 
 /// Sets all rows to 0.
 fn clear(out: &mut [[i32; 1536]; 6])

@@ -1,11 +1,10 @@
 ghost use Rattle.std.specs.Prelude.{◌≡◌, ◌≤◌, ◌%◌};
-ghost use Rattle.ac_wav.specs.Form.{IsOfProfile};
+ghost use Rattle.ac_riff.specs.Form.{IsOfProfile};
 
 use super::*;
 use crate::law::wav_law;
-use crate::memory;
 use ac_io::StdSource;
-use std::test::Fail;
+use std::io::{self, ErrorKind, Read};
 
 /// A head of this many channels and bits, whose data begin at byte 44.
 fn head(acmod: u8, lfe: bool, bits: u8, size: Option<u32>) -> WavHead
@@ -22,8 +21,8 @@ fn head(acmod: u8, lfe: bool, bits: u8, size: Option<u32>) -> WavHead
         acmod,
         lfe,
         bits,
-        channels: crate::layout::channels(acmod, lfe),
-        order: crate::layout::order(acmod, lfe),
+        channels: ac_riff::layout::channels(acmod, lfe),
+        order: ac_riff::layout::order(acmod, lfe),
         size,
         taken: 44,
     }
@@ -97,9 +96,9 @@ fn whole_wav_and_what_follows(rt: HostRuntime) {
 }
 
 #[test]
-fn whole_frames_and_a_rest(rt: HostRuntime) -> Result<(), Fail> {
+fn whole_frames_and_a_rest(rt: HostRuntime) {
     let bytes = [1; 3072 + 3];
-    let mut source = memory::source(&rt, &bytes, &[])?;
+    let mut source = StdSource::new(bytes.as_slice());
     let mut body = WavBody::new(&head(1, false, 16, None), 44 + 3075);
     let mut out = [[0; 1536]; 6];
     assert_eq!(rt; body.samples(&mut source, &mut out), Ok(1536));
@@ -107,7 +106,6 @@ fn whole_frames_and_a_rest(rt: HostRuntime) -> Result<(), Fail> {
     assert_eq!(rt; body.samples(&mut source, &mut out), Ok(1));
     assert!(rt; out[0][0] == 257 * 256 && out[0][1] == 0);
     assert_eq!(rt; body.samples(&mut source, &mut out), Ok(0));
-    Ok(())
 }
 
 /// A WAV of one channel of 16 bits at 48 kHz: a head of 44 bytes, and 8 bytes of data.
@@ -162,9 +160,20 @@ fn refusal_kept(rt: HostRuntime) {
     }
 }
 
+/// Fails at every read.
+#[derive(Drop)]
+struct Broken;
+
+impl Read for Broken {
+    fn read(&mut self, _buf: &mut [u8]) -> io::Result<usize> {
+        Err(io::Error::from(ErrorKind::Other))
+    }
+}
+
 #[test]
-fn a_failed_read_is_kept(rt: HostRuntime) -> Result<(), Fail> {
-    let mut source = memory::source(&rt, &[1, 0, 2, 0], &[0])?;
+fn a_failed_read_is_kept(rt: HostRuntime) {
+    let bytes = [1, 0];
+    let mut source = StdSource::new(bytes.as_slice().chain(Broken));
     let mut body = WavBody::new(&head(1, false, 16, Some(4)), 1000);
     let mut out = [[0; 1536]; 6];
     assert_eq!(rt;
@@ -175,5 +184,4 @@ fn a_failed_read_is_kept(rt: HostRuntime) -> Result<(), Fail> {
         body.samples(&mut source, &mut out),
         Err(WavFault::ReadFault)
     );
-    Ok(())
 }

@@ -1,6 +1,6 @@
 use Rattle.std.proofs.Common.{◌≡◌, ℕ, ◌-◌, ◌*◌, ◌^◌, ◌≤◌, List}
 use Rattle.ac_base.specs.Sigma.{Within}
-use Rattle.ac_wav.specs.Refusal.{HeadRead}
+use Rattle.ac_riff.specs.Refusal.{HeadRead}
 use Rattle.ac_wav.specs.Body.{head_in, limit_of, taken_by, IsBehind}
 use Rattle.ac_app.specs.Input.{limit}
 use Rattle.ac_app.specs.World.{sinks, world, NeverFalls}

@@ -1,0 +1,10 @@
+pub mod Chunks
+pub mod Stops
+pub mod Fields
+pub mod Fine
+pub mod Unique
+pub mod Ways
+pub mod Endings
+pub mod Each
+pub mod Fronts
+pub mod Exact

@@ -1,0 +1,5 @@
+pub mod Layout
+pub mod Format
+pub mod Form
+pub mod Refusal
+pub mod Pieces
