@@ -3,3 +3,4 @@ pub mod Places
 pub mod Laws
 pub mod Faults
 pub mod Loops
+pub mod Encodes

@@ -1,5 +1,5 @@
 -- What the loop over the frames of an input leaves, and why it stopped: this project's own rules.
-use Rattle.std.specs.Prelude.{◌≡◌, ℕ, ◌+◌, ◌*◌, ◌≤◌, List, length, Some, pos}
+use Rattle.std.specs.Prelude.{◌≡◌, ℕ, ◌+◌, ◌*◌, ◌≤◌, List, length, Some, Result, Ok, Err, pos}
 use Rattle.ac_io.specs.Outside.{Rose}
 use Rattle.ac_io.specs.Within.{IsAt}
 use Rattle.ac_riff.specs.declared.fault.WavFault.{WavFault}
@@ -54,3 +54,9 @@ abbrev pub unread_status : WavFault → Status
 unread_status (wav.Bad kind place) = statuses.BadWav kind place
 unread_status wav.ReadFault = statuses.ReadFault
 unread_status wav.TooLong = statuses.TooLong limit
+
+-- the status of an encode whose frames ended so
+abbrev pub ended_status : Result (Unit {0}) Stop → Status
+ended_status (Ok _) = statuses.Ok
+ended_status (Err (stops.Input fault)) = unread_status fault
+ended_status (Err (stops.Sink broken)) = statuses.WriteFault

@@ -4,7 +4,7 @@ ghost use Rattle.ac_base.specs.Rates.{IsRate};
 ghost use Rattle.ac_io.specs.Within.{TakesAtMost};
 ghost use Rattle.ac_app.specs.Input.{limit, IsMono};
 ghost use Rattle.ac_app.specs.Run.{EncodeLeaves, EncodeHasCause, RoseFor};
-ghost use Rattle.ac_app.specs.Loop.{unread_status};
+ghost use Rattle.ac_app.specs.Loop.{unread_status, ended_status};
 ghost use Rattle.ac_app.specs.World.{world, NeverFalls};
 ghost use Rattle.ac_app.specs.declared.status.Status.TheVariants.{Ok, Usage, ReadFault, WriteFault, NoMemory};
 
@@ -31,6 +31,17 @@ fn unread(fault: WavFault) -> Status
         WavFault::Bad(kind, place) => Status::BadWav(kind, place),
         WavFault::ReadFault => Status::ReadFault,
         WavFault::TooLong => Status::TooLong { limit: LIMIT },
+    }
+}
+
+/// The status of an encode whose frames ended so.
+fn ended(end: Result<(), Stop>) -> Status
+    ensures { result ≡ ended_status end }
+{
+    match end {
+        Ok(()) => Status::Ok,
+        Err(Stop::Input(fault)) => unread(fault),
+        Err(Stop::Sink(_)) => Status::WriteFault,
     }
 }
 
@@ -67,9 +78,7 @@ pub fn encode<S: Source, O: Sink, N: Sink>(
     let Ok(mut work) = open(alloc) else {
         return Status::NoMemory;
     };
-    match frames(options, &head, &mut work, input, output, report) {
-        Ok(()) => Status::Ok,
-        Err(Stop::Input(fault)) => unread(fault),
-        Err(Stop::Sink(_)) => Status::WriteFault,
-    }
+    ended(frames(
+        options, &head, &mut work, input, output, report,
+    ))
 }

@@ -1,0 +1,38 @@
+use Rattle.std.proofs.Common.{◌≡◌, true, false, refl, sym, subst, inl}
+use Rattle.ac_app.specs.declared.status.Status.{Status}
+use Rattle.ac_app.specs.Run.{EncodeHasCause}
+use Rattle.ac_app.proofs.Inputs.{head_cause, other_layout}
+use Rattle.ac_app.proofs.Encodes.{stops_before, untaken, ended_leaves, ended_cause}
+use Rattle.ac_app.proofs.encode.encode.Goals as goal
+
+pub returns-in-Err-clause-told : goal.returns-in-Err-clause-told
+returns-in-Err-clause-told g c = λ bytes e.
+    stops_before c.args.options c.in-Err.fault c.unread.result bytes _ _ c.unread.ensures (record { untaken = λ head is. ?; unwritten = refl })
+
+pub returns-in-Err-clause-cause : goal.returns-in-Err-clause-cause
+returns-in-Err-clause-cause g c = λ bytes e.
+    subst (λ (s : Status). EncodeHasCause s bytes) (sym c.unread.ensures) (head_cause bytes c.in-Err.fault (c.in-Err.ensures.cause bytes e))
+
+pub returns-then-not-is_mono-clause-told : goal.returns-then-not-is_mono-clause-told
+returns-then-not-is_mono-clause-told g c = λ bytes e.
+    inl (record { untaken = untaken bytes c.in-Ok.head _ (c.in-Ok.ensures.told bytes e); unwritten = refl })
+
+pub returns-then-not-is_mono-clause-cause : goal.returns-then-not-is_mono-clause-cause
+returns-then-not-is_mono-clause-cause g c = λ bytes e.
+    other_layout bytes c.in-Ok.head _ (c.in-Ok.ensures.told bytes e) (λ m. let wrong : false ≡ true = c.if-not-is_mono.ensures.1 m in cc)
+
+pub returns-in_default-clause-told : goal.returns-in_default-clause-told
+returns-in_default-clause-told g c = λ bytes e.
+    record { untaken = untaken bytes c.in-Ok.head _ (c.in-Ok.ensures.told bytes e); unwritten = refl }
+
+pub returns-clause-told : goal.returns-clause-told
+returns-clause-told g c = λ bytes e.
+    ended_leaves c.args.options c.frames.result c.ended.result bytes _ _ _ _ c.ended.ensures (c.frames.ensures.told bytes (c.in-Ok.ensures.told bytes e))
+
+pub returns-clause-cause : goal.returns-clause-cause
+returns-clause-cause g c = λ bytes e.
+    subst (λ (s : Status). EncodeHasCause s bytes) (sym c.ended.ensures)
+    (ended_cause c.args.options c.frames.result bytes _ _ (c.frames.ensures.told bytes (c.in-Ok.ensures.told bytes e)))
+
+pub returns-clause-most_read : goal.returns-clause-most_read
+returns-clause-most_read g c = λ bytes e. c.frames.ensures.most_read bytes (c.in-Ok.ensures.told bytes e)
