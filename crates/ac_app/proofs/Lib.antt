@@ -4,3 +4,5 @@ pub mod Laws
 pub mod Faults
 pub mod Loops
 pub mod Encodes
+pub mod Jobs
+pub mod Ends

@@ -15,8 +15,17 @@ use crate::encode::encode;
 use crate::lines;
 use crate::status::Status;
 use ac_io::{Sink, Source};
-use ac_words::{Command, WordsFault, command};
+use ac_words::{Command, Options, WordsFault, command};
 use std::alloc::Global;
+
+/// The options of an encode.
+fn options_of(asked: Command) -> Options
+    ensures { asked ≡ Command.Encode result }
+{
+    match asked {
+        Command::Encode(options) => options,
+    }
+}
 
 /// Does what a command asks for.
 fn follow<S: Source, O: Sink, N: Sink>(
@@ -41,9 +50,7 @@ fn follow<S: Source, O: Sink, N: Sink>(
         (world S.left S.faults O.held O.faults N.held N.faults input.old output.old report.old)
         (world S.left S.faults O.held O.faults N.held N.faults input.new output.new report.new) }
 {
-    match asked {
-        Command::Encode(options) => encode(alloc, options, input, output, report),
-    }
+    encode(alloc, options_of(asked), input, output, report)
 }
 
 /// Does what the words ask for, but for the status line.

@@ -1,0 +1,28 @@
+use Rattle.ac_app.proofs.Ends.{run_cause, is_done, refused_is, too_long_is, complete_is}
+use Rattle.ac_app.proofs.top.run.Goals as goal
+
+pub returns-clause-told : goal.returns-clause-told
+returns-clause-told g c = λ bytes told. record {
+  status = c.job-status.result;
+  whole = c.tell-whole.result;
+  answer = c.answer.ensures;
+  between = _;
+  job = c.job-status.ensures.told bytes told;
+  line = c.tell-whole.ensures.line;
+}
+
+pub returns-clause-cause : goal.returns-clause-cause
+returns-clause-cause g c = λ bytes told.
+    run_cause _ c.job-status.result c.answer.result c.tell-whole.result bytes c.answer.ensures (c.job-status.ensures.cause bytes told)
+
+pub returns-clause-ok : goal.returns-clause-ok
+returns-clause-ok g c = λ bytes told. is_done _ c.answer.result bytes _ _ (returns-clause-told g c bytes told)
+
+pub returns-clause-refused : goal.returns-clause-refused
+returns-clause-refused g c = λ bytes o kind place told. refused_is _ o c.answer.result bytes kind place (returns-clause-cause g c bytes told)
+
+pub returns-clause-too_long : goal.returns-clause-too_long
+returns-clause-too_long g c = λ bytes o told. too_long_is _ o c.answer.result bytes (returns-clause-cause g c bytes told)
+
+pub returns-clause-complete : goal.returns-clause-complete
+returns-clause-complete g c = λ bytes o head told. complete_is _ o c.answer.result bytes head (returns-clause-cause g c bytes told)
