@@ -6,3 +6,4 @@ pub mod Loops
 pub mod Encodes
 pub mod Jobs
 pub mod Ends
+pub mod Done
