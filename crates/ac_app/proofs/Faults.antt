@@ -17,4 +17,3 @@ rose_before old mid new rose up = omega (arith, up, rose)
 pub sink_behind : (broken : Broken) (old mid new : Sinks) → SinksNeverFall old mid → RoseAt broken mid new → RoseAt broken old new
 sink_behind broken_ones.Output old mid new up rose = rose_behind old.output.faults mid.output.faults new.output.faults up.0 rose
 sink_behind broken_ones.Report old mid new up rose = rose_behind old.report.faults mid.report.faults new.report.faults up.1 rose
-

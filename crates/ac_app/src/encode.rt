@@ -78,7 +78,5 @@ pub fn encode<S: Source, O: Sink, N: Sink>(
     let Ok(mut work) = open(alloc) else {
         return Status::NoMemory;
     };
-    ended(frames(
-        options, &head, &mut work, input, output, report,
-    ))
+    ended(frames(options, &head, &mut work, input, output, report))
 }

@@ -64,7 +64,7 @@ pub fn frame<O: Sink, N: Sink>(
     requires row { Within (2 ^ 23) 1536 (first_row work.old) }
     ensures told { (s : Sound) → s.fscod ≡ fscod → IsLast s 0 i work.old.last → IsOwn s 0 i (first_row work.old)
         → FrameLeaves options s i result (sinks O.held O.faults N.held N.faults output.old report.old)
-            (sinks O.held O.faults N.held N.faults output.new report.new) × IsLast s 0 (i + 1) work.new.last }
+        (sinks O.held O.faults N.held N.faults output.new report.new) × IsLast s 0 (i + 1) work.new.last }
     ensures bound { Within (2 ^ 23) 256 work.new.last }
     ensures rose { IfErr result (λ broken. RoseAt broken
         (sinks O.held O.faults N.held N.faults output.old report.old) (sinks O.held O.faults N.held N.faults output.new report.new)) }

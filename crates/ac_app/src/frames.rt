@@ -75,11 +75,11 @@ fn full_frames<S: Source, O: Sink, N: Sink>(
     requires silent { work.old.last ≡ replicate 256 (pos 0) }
     ensures told { (bytes : List ℕ) → HeadRead bytes limit head.now (S.left input.old) → MatchResult result
         (λ read. AllRead options bytes head.now read work.new
-            (world S.left S.faults O.held O.faults N.held N.faults input.old output.old report.old)
-            (world S.left S.faults O.held O.faults N.held N.faults input.new output.new report.new))
+        (world S.left S.faults O.held O.faults N.held N.faults input.old output.old report.old)
+        (world S.left S.faults O.held O.faults N.held N.faults input.new output.new report.new))
         (λ stop. StopLeaves options stop bytes
-            (world S.left S.faults O.held O.faults N.held N.faults input.old output.old report.old)
-            (world S.left S.faults O.held O.faults N.held N.faults input.new output.new report.new)) }
+        (world S.left S.faults O.held O.faults N.held N.faults input.old output.old report.old)
+        (world S.left S.faults O.held O.faults N.held N.faults input.new output.new report.new)) }
     ensures count { IfOk result (λ read. (read.frames < 2 ^ 31) × (read.rest < 1536)) }
     ensures row { IfOk result (λ _. Within (2 ^ 23) 1536 (first_row work.new)) }
     ensures bound { Within (2 ^ 23) 256 work.new.last }
@@ -167,11 +167,11 @@ pub fn frames<S: Source, O: Sink, N: Sink>(
     requires silent { work.old.last ≡ replicate 256 (pos 0) }
     ensures told { (bytes : List ℕ) → HeadRead bytes limit head.now (S.left input.old) → MatchResult result
         (λ _. Encodes options bytes
-            (world S.left S.faults O.held O.faults N.held N.faults input.old output.old report.old)
-            (world S.left S.faults O.held O.faults N.held N.faults input.new output.new report.new))
+        (world S.left S.faults O.held O.faults N.held N.faults input.old output.old report.old)
+        (world S.left S.faults O.held O.faults N.held N.faults input.new output.new report.new))
         (λ stop. StopLeaves options stop bytes
-            (world S.left S.faults O.held O.faults N.held N.faults input.old output.old report.old)
-            (world S.left S.faults O.held O.faults N.held N.faults input.new output.new report.new)) }
+        (world S.left S.faults O.held O.faults N.held N.faults input.old output.old report.old)
+        (world S.left S.faults O.held O.faults N.held N.faults input.new output.new report.new)) }
     ensures most_read { (bytes : List ℕ) → HeadRead bytes limit head.now (S.left input.old) → TakesAtMost bytes (limit + 1) (S.left input.new) }
     ensures rose { IfErr result (λ stop. StopRose stop
         (world S.left S.faults O.held O.faults N.held N.faults input.old output.old report.old)

@@ -38,11 +38,11 @@ returns-in_err-rest-clause-told g c = λ bytes h.
     let fault = c.in_err-rest.field-0.0 in
     let left = g.S.Source.left c.samples.new.input in
     let u = subst (λ (m : ℕ). IsUnsampled bytes head (taken_by old) m fault) i.limit_is
-        (subst (λ (w : WavHead). IsUnsampled bytes w (taken_by old) (limit_of old) fault) i.head (c.in_err-rest.ensures.cause bytes (1536 * n) s.stands)) in
+    (subst (λ (w : WavHead). IsUnsampled bytes w (taken_by old) (limit_of old) fault) i.head (c.in_err-rest.ensures.cause bytes (1536 * n) s.stands)) in
     let l = subst (λ (m : ℕ). UnsampledLeaves bytes head (taken_by old) m fault left) i.limit_is
-        (subst (λ (w : WavHead). UnsampledLeaves bytes w (taken_by old) (limit_of old) fault left) i.head (c.in_err-rest.ensures.told bytes (1536 * n) s.stands)) in
+    (subst (λ (w : WavHead). UnsampledLeaves bytes w (taken_by old) (limit_of old) fault left) i.head (c.in_err-rest.ensures.told bytes (1536 * n) s.stands)) in
     let t = subst (λ (m : ℕ). FramesTaken bytes head m n left) i.limit_is
-        (subst (λ (w : WavHead). FramesTaken bytes w (limit_of old) n left) i.head (c.in_err-rest.ensures.frames bytes n s.stands)) in
+    (subst (λ (w : WavHead). FramesTaken bytes w (limit_of old) n left) i.head (c.in_err-rest.ensures.frames bytes n s.stands)) in
     let least : head.taken ≤ taken_by old = omega (arith, i.stands.taken_is, ap (λ (w : WavHead). w.taken) i.head) in
     let p = err_from_is_err_and c.from_residual.result c.from_residual.ensures.1 in
     rw (p.1, p.2) (unread c.args.options bytes head (taken_by old) n fault _ _ (begun_by bytes head _ c.requires.mono h) least i.room u l t s.frames)
@@ -67,7 +67,7 @@ returns-then-rest-lt1536-clause-told g c = λ bytes h.
     let head = c.args.head.now in
     let n = c.loop-rest.frames in
     let r = subst (λ (w : WavHead). SamplesRead bytes w (taken_by c.loop-rest.body) (1536 * n) (taken_by c.samples.new.self) c.in_ok-rest.rest c.samples.new.out (g.S.Source.left c.samples.new.input)) i.head
-        (c.in_ok-rest.ensures.told bytes (1536 * n) s.stands) in
+    (c.in_ok-rest.ensures.told bytes (1536 * n) s.stands) in
     let within : taken_by c.samples.new.self ≤ limit = omega (arith, c.in_ok-rest.ensures.within, c.in_ok-rest.ensures.limit, i.limit_is) in
     all_read c.args.options bytes head (taken_by c.loop-rest.body) (taken_by c.samples.new.self) n c.in_ok-rest.rest _ _ _ h.is within s.some s.before s.frames r c.if-rest-lt1536.true
 
@@ -103,14 +103,14 @@ returns-in_err-frame-clause-told g c = λ bytes h.
     let full : c.in_ok-rest.rest ≡ 1536 = omega (arith, c.in_ok-rest.ensures.count, c.if-rest-lt1536.false) in
     let next = c.in_ok-rest.ensures.next (1536 * n) i.stands full in
     let r = subst (λ (w : WavHead). SamplesRead bytes w (taken_by c.loop-rest.body) (1536 * n) (taken_by c.samples.new.self) c.in_ok-rest.rest c.samples.new.out (g.S.Source.left c.samples.new.input)) i.head
-        (c.in_ok-rest.ensures.told bytes (1536 * n) s.stands) in
+    (c.in_ok-rest.ensures.told bytes (1536 * n) s.stands) in
     let count = r.count in
     let most : 1536 * (n + 1) ≤ sample_count head bytes = omega (arith, count, full) in
     let here = c.in_err-frame.ensures.told (sound_of head bytes) refl s.before (own_row bytes head _ n _ _ _ _ r) in
     let rose = sink_behind c.in_err-frame.field-0.0 _ _ _ i.never_falls.1 c.in_err-frame.ensures.rose in
     let p = err_from_is_err_and c.from_residual-in_err-frame.result c.from_residual-in_err-frame.ensures.1 in
     rw (p.1, p.2) (full_broke c.args.options bytes head n (taken_by c.samples.new.self) c.in_err-frame.field-0.0 _ _ _ (begun_by bytes head _ c.requires.mono h)
-        (align_least head c.requires.profile) rose most (taken_full c.loop-rest.body c.samples.new.self head n i.head c.in_ok-rest.ensures.head next) r.at s.frames here.0)
+    (align_least head c.requires.profile) rose most (taken_full c.loop-rest.body c.samples.new.self head n i.head c.in_ok-rest.ensures.head next) r.at s.frames here.0)
 
 pub returns-in_err-frame-clause-most_read : goal.returns-in_err-frame-clause-most_read
 returns-in_err-frame-clause-most_read g c = λ bytes h.
@@ -155,7 +155,7 @@ loop-rest-preserved g c =
       told = λ bytes h.
           let s = i.told bytes h in
           let r = subst (λ (w : WavHead). SamplesRead bytes w (taken_by c.loop-rest.body) (1536 * n) (taken_by c.samples.new.self) c.in_ok-rest.rest c.samples.new.out (g.S.Source.left c.samples.new.input)) i.head
-              (c.in_ok-rest.ensures.told bytes (1536 * n) s.stands) in
+          (c.in_ok-rest.ensures.told bytes (1536 * n) s.stands) in
           let count = r.count in
           let here = c.in_ok-frame.ensures.told (sound_of head bytes) refl s.before (own_row bytes head _ n _ _ _ _ r) in
           record {

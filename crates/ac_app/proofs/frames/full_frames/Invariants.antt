@@ -11,8 +11,8 @@ abbrev pub invariant-loop-rest : goal.invariant-loop-rest
 invariant-loop-rest g l = record {
   told : (bytes : List ℕ) → HeadRead bytes limit l.head (g.S.Source.left l.initial.input)
       → SoFar l.options bytes l.head l.body l.frames l.work.last (g.S.Source.left l.input)
-          (sinks g.O.Sink.held g.O.Sink.faults g.N.Sink.held g.N.Sink.faults l.initial.output l.initial.report)
-          (sinks g.O.Sink.held g.O.Sink.faults g.N.Sink.held g.N.Sink.faults l.output l.report);
+      (sinks g.O.Sink.held g.O.Sink.faults g.N.Sink.held g.N.Sink.faults l.initial.output l.initial.report)
+      (sinks g.O.Sink.held g.O.Sink.faults g.N.Sink.held g.N.Sink.faults l.output l.report);
   head : head_in l.body ≡ l.head;
   limit_is : limit_of l.body ≡ limit;
   stands : IsBehind l.body (1536 * l.frames);
