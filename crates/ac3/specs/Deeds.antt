@@ -1,7 +1,8 @@
 -- What the program asks for and says, in order.
-use Rattle.std.specs.Prelude.{◌≡◌, ℕ, Bool, false, List, [], ◌∷◌, ◌++◌, Option, Some, None, Result, Ok, Err, codes, if◌then◌else◌}
+use Rattle.std.specs.Prelude.{◌≡◌, ℕ, Bool, true, false, not, ◌&&◌, ◌||◌, List, [], ◌∷◌, ◌++◌, Option, Some, None, Result, Ok, Err, codes, if◌then◌else◌}
 use Rattle.std.specs.Str.{bytes_eq}
 use Rattle.ac_words.specs.Grammar.{Text, LastWords}
+use Rattle.ac3.specs.declared.perform.Answers.{Answers}
 
 -- what an object of the outside tells: its bytes, or not, and how many of its calls failed
 pub record Told : Type 0 where
@@ -19,16 +20,24 @@ pub data Thing : Type 0 where
   output_file : Text → Thing
   report_file : Text → Thing
 
--- a thing was asked for and given, and tells this; or it was refused; or a text was printed
+-- a thing was asked for and given, and tells this; or it was refused; or it was asked whether two are one file; or a
+-- text was printed whole, or not
 pub data Deed : Type 0 where
   given : Thing → Told → Deed
   refused : Thing → Deed
+  compared : Thing → Thing → Bool → Deed
   said : Text → Deed
+  unsaid : Text → Deed
 
 -- what asking for a thing has come to
 abbrev pub asked : {A E : Type 0} → Thing → (A → Option (List ℕ)) → (A → ℕ) → Result A E → Deed
 asked thing bytes faults (Ok x) = given thing (told (bytes x) (faults x))
 asked thing bytes faults (Err _) = refused thing
+
+-- what printing a text has come to
+abbrev pub printed : {A E : Type 0} → Text → Result A E → Deed
+printed text (Ok _) = said text
+printed text (Err _) = unsaid text
 
 -- where the deeds are still told, they were told before, and exactly these came behind the old ones
 abbrev pub Did : Option (List Deed) → Option (List Deed) → List Deed → Type 0
@@ -46,6 +55,25 @@ input_of name = (if is_dash name then standard_input else file_to_read name)
 
 abbrev pub output_of : Text → Thing
 output_of name = (if is_dash name then standard_output else output_file name)
+
+-- ---- two of them that mean one file
+
+-- which of the three are one file was asked, and answered so; `-` names no report
+abbrev pub all_compared : LastWords → Answers → List Deed
+all_compared n a = compared (input_of n.from) (output_of n.to) a.input_output ∷ (if is_dash n.report then []
+    else compared (input_of n.from) (report_file n.report) a.input_report
+    ∷ compared (output_of n.to) (report_file n.report) a.output_report ∷ [])
+
+-- two words are the same name; `-` names no file
+abbrev pub is_one_name : Text → Text → Bool
+is_one_name a b = not (is_dash a) && bytes_eq a b
+
+-- two of the three are one file: they have one name, or it was answered so
+abbrev pub is_shared : LastWords → Answers → Bool
+is_shared n a = (is_one_name n.from n.to || a.input_output)
+    || (not (is_dash n.report) && ((is_one_name n.from n.report || a.input_report) || (is_one_name n.to n.report || a.output_report)))
+
+-- ---- all three given, or one refused
 
 -- what the input, the output and the report tell
 pub record Tellings : Type 0 where
@@ -69,9 +97,20 @@ report_given name t = (if is_dash name then [] else given (report_file name) t �
 abbrev pub all_given : LastWords → Tellings → List Deed
 all_given n t = given (input_of n.from) t.input ∷ given (output_of n.to) t.output ∷ report_given n.report t.report
 
--- one of them was refused, and nothing behind it asked for
-pub data Stopped (n : LastWords) : List Deed → Type 0 where
-  no_input : Stopped n (refused (input_of n.from) ∷ [])
-  no_output : (i : Told) → Stopped n (given (input_of n.from) i ∷ refused (output_of n.to) ∷ [])
+-- they were compared, no two are one file, and the three were asked for and given
+pub record AllGiven (n : LastWords) (t : Tellings) (deeds : List Deed) : Type 0 where
+  pub answers : Answers
+  pub apart : is_shared n answers ≡ false
+  pub same : deeds ≡ all_compared n answers ++ all_given n t
+
+-- one of the three was refused, and nothing behind it asked for
+pub data Refused (n : LastWords) : List Deed → Type 0 where
+  no_input : Refused n (refused (input_of n.from) ∷ [])
+  no_output : (i : Told) → Refused n (given (input_of n.from) i ∷ refused (output_of n.to) ∷ [])
   no_report : (i o : Told) → is_dash n.report ≡ false
-      → Stopped n (given (input_of n.from) i ∷ given (output_of n.to) o ∷ refused (report_file n.report) ∷ [])
+      → Refused n (given (input_of n.from) i ∷ given (output_of n.to) o ∷ refused (report_file n.report) ∷ [])
+
+-- two of the three are one file, and nothing was asked for; or no two are, and one was refused
+pub data Stopped (n : LastWords) : List Deed → Type 0 where
+  one_file : (a : Answers) → is_shared n a ≡ true → Stopped n (all_compared n a)
+  not_given : (a : Answers) (deeds : List Deed) → is_shared n a ≡ false → Refused n deeds → Stopped n (all_compared n a ++ deeds)

@@ -4,23 +4,23 @@ use Rattle.ac_io.specs.Outside.{Rose}
 use Rattle.ac_words.specs.Grammar.{Text, LastWords, InGrammar}
 use Rattle.ac_words.specs.Asked.{GivesNames}
 use Rattle.ac_words.specs.declared.fault.WordsFault.{WordsFault}
-use Rattle.ac_words.specs.declared.fault.WordsFault.TheVariants as faults
 use Rattle.ac_app.specs.Lines.{code_of, status_line}
 use Rattle.ac_app.specs.Run.{Counts, counts, JobTakes, RunGives, IsDone}
 use Rattle.ac_app.specs.World.{Held, held}
 use Rattle.ac_app.specs.declared.status.Status.{Status}
-use Rattle.ac_app.specs.declared.status.Status.TheVariants.{Ok, ReadFault, WriteFault}
+use Rattle.ac_app.specs.declared.status.Status.TheVariants.{Ok, Usage, ReadFault, WriteFault}
 use Rattle.ac3.specs.Codes.{open_fault, open_fault_line, status_of_words}
-use Rattle.ac3.specs.Deeds.{Deed, said, Did, told, told_report, Tellings, tellings, all_given, Stopped}
+use Rattle.ac3.specs.Deeds.{Deed, unsaid, Did, told, told_report, Tellings, tellings, AllGiven, Stopped}
 use Rattle.ac3.specs.declared.perform.Things.{Things}
 use Rattle.ac3.specs.declared.perform.Ended.{Ended}
-use Rattle.ac3.specs.declared.perform.Ended.TheVariants.{Ran, OpenFault, NoWords}
+use Rattle.ac3.specs.declared.perform.Ended.TheVariants.{Ran, OpenFault, NoWords, Unsaid}
 
 -- the exit code of an end
 abbrev pub code_of_end : {S O N : Type 0} → Ended S O N → ℕ
 code_of_end (Ran status _) = code_of status
 code_of_end OpenFault = open_fault
 code_of_end (NoWords fault) = code_of (status_of_words fault)
+code_of_end Unsaid = code_of WriteFault
 
 -- what the three things tell, each by what its trait tells of it
 abbrev pub tellings_of : {S O N : Type 0} → (S → Option (List ℕ)) → (S → ℕ) → (O → Option (List ℕ)) → (O → ℕ)
@@ -33,16 +33,25 @@ abbrev pub IfRan : {S O N : Type 0} → Ended S O N → (Status → Things S O N
 IfRan (Ran status things) P = P status things
 IfRan OpenFault P = Unit {0}
 IfRan (NoWords _) P = Unit {0}
+IfRan Unsaid P = Unit {0}
 
 abbrev pub IfOpenFault : {S O N : Type 0} → Ended S O N → Type 0 → Type 0
 IfOpenFault (Ran _ _) P = Unit {0}
 IfOpenFault OpenFault P = P
 IfOpenFault (NoWords _) P = Unit {0}
+IfOpenFault Unsaid P = Unit {0}
 
 abbrev pub IfNoWords : {S O N : Type 0} → Ended S O N → (WordsFault → Type 0) → Type 0
 IfNoWords (Ran _ _) P = Unit {0}
 IfNoWords OpenFault P = Unit {0}
 IfNoWords (NoWords fault) P = P fault
+IfNoWords Unsaid P = Unit {0}
+
+abbrev pub IfUnsaid : {S O N : Type 0} → Ended S O N → Type 0 → Type 0
+IfUnsaid (Ran _ _) P = Unit {0}
+IfUnsaid OpenFault P = Unit {0}
+IfUnsaid (NoWords _) P = Unit {0}
+IfUnsaid Unsaid P = P
 
 -- what the output and the report have taken
 abbrev pub written : Tellings → Held
@@ -60,16 +69,31 @@ pub record Leaves (ws : List Text) (status : Status) (old new : Tellings) : Type
   pub read : status ≡ ReadFault → Rose old.input.faults new.input.faults
   pub write : status ≡ WriteFault → Rose old.output.faults new.output.faults ⊎ Rose old.report.faults new.report.faults
 
--- the words name three things, which were asked for and given in order, and the words were run on them
-abbrev pub RunsOn : List Text → Status → Option (List Deed) → Option (List Deed) → Tellings → Type 0
-RunsOn ws status old new now =
-    (n : LastWords) × GivesNames ws n × ((before : Tellings) × Did old new (all_given n before) × Leaves ws status before now)
+-- ---- the four ends
 
--- the words name three things, of which one was refused, and status 8 was said
-abbrev pub StopsAt : List Text → Option (List Deed) → Option (List Deed) → Type 0
-StopsAt ws old new =
-    (n : LastWords) × GivesNames ws n × ((deeds : List Deed) × Stopped n deeds × Did old new (deeds ++ said open_fault_line ∷ []))
+-- the words name three things, no two of which are one file; they were asked for and given in order, and the words were run on them
+pub record RunsOn (ws : List Text) (status : Status) (old new : Option (List Deed)) (now : Tellings) : Type 0 where
+  pub names : LastWords
+  pub named : GivesNames ws names
+  pub before : Tellings
+  pub deeds : List Deed
+  pub all : AllGiven names before deeds
+  pub did : Did old new deeds
+  pub leaves : Leaves ws status before now
 
--- the words are outside the grammar: nothing was asked for, and usage was said
-abbrev pub Refuses : List Text → WordsFault → Option (List Deed) → Option (List Deed) → Type 0
-Refuses ws fault old new = (fault ≡ faults.Usage) × (InGrammar ws → ⊥) × Did old new (said (status_line (status_of_words fault)) ∷ [])
+-- the words name three things, of which two are one file or one was refused, and then this was done
+pub record StopsAt (ws : List Text) (last : Deed) (old new : Option (List Deed)) : Type 0 where
+  pub names : LastWords
+  pub named : GivesNames ws names
+  pub deeds : List Deed
+  pub stopped : Stopped names deeds
+  pub did : Did old new (deeds ++ last ∷ [])
+
+-- the words are outside the grammar: nothing was asked for, and only this was done
+pub record IsOutside (ws : List Text) (last : Deed) (old new : Option (List Deed)) : Type 0 where
+  pub no_meaning : InGrammar ws → ⊥
+  pub did : Did old new (last ∷ [])
+
+-- the line of an open fault, or of usage, couldn't be printed whole
+abbrev pub HasUnsaid : List Text → Option (List Deed) → Option (List Deed) → Type 0
+HasUnsaid ws old new = StopsAt ws (unsaid open_fault_line) old new ⊎ IsOutside ws (unsaid (status_line Usage)) old new

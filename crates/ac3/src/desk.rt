@@ -1,9 +1,10 @@
 ghost use Rattle.std.specs.Prelude.{[], ◌∷◌, List, Option};
-ghost use Rattle.ac3.specs.Deeds.{Deed, Did, asked, given, said, told, standard_input, file_to_read, standard_output, output_file, report_file};
+ghost use Rattle.ac3.specs.Deeds.{Deed, Did, asked, given, compared, printed, told, standard_input, file_to_read, standard_output, output_file, report_file, input_of, output_of};
 
 use ac_app::{Failed, Sink, Source};
 
-/// Where the program asks for what it reads and writes, and prints its own lines.
+/// Where the program asks for what it reads and writes, and prints its own lines. It creates and empties nothing
+/// that it isn't asked to.
 pub trait Desk {
     /// What is read.
     type Input: Source + Drop;
@@ -16,6 +17,19 @@ pub trait Desk {
 
     /// What was asked for and printed so far, where it is told. A desk may cease to tell.
     ghost done: { Self → Option (List Deed) };
+
+    /// Whether the input and the output of these names are one file; `-` stands for the standard streams. Terminals,
+    /// pipes and devices such as the null device are no files.
+    fn input_is_output(&mut self, from: &str, to: &str) -> bool
+        ensures { Did (done self.old) (done self.new) (compared (input_of from.now) (output_of to.now) result ∷ []) };
+
+    /// Whether the input of this name and the report's file are one file.
+    fn input_is_report(&mut self, from: &str, report: &str) -> bool
+        ensures { Did (done self.old) (done self.new) (compared (input_of from.now) (report_file report.now) result ∷ []) };
+
+    /// Whether the output of this name and the report's file are one file.
+    fn output_is_report(&mut self, to: &str, report: &str) -> bool
+        ensures { Did (done self.old) (done self.new) (compared (output_of to.now) (report_file report.now) result ∷ []) };
 
     /// Standard input.
     fn standard_input(&mut self) -> Self::Input
@@ -55,6 +69,10 @@ pub trait Desk {
             (asked (report_file name.now) Self.Report.held Self.Report.faults result ∷ []) };
 
     /// Prints a text on standard output.
-    fn say(&mut self, text: &str)
-        ensures { Did (done self.old) (done self.new) (said text.now ∷ []) };
+    ///
+    /// # Errors
+    ///
+    /// `Failed` where it couldn't be printed whole.
+    fn say(&mut self, text: &str) -> Result<(), Failed>
+        ensures { Did (done self.old) (done self.new) (printed text.now result ∷ []) };
 }

@@ -2,7 +2,8 @@
 ghost use Rattle.std.specs.Prelude.{None};
 
 use crate::desk::Desk;
-use ac_app::{Failed, StdSink, StdSource};
+use crate::same::is_one_file;
+use ac_app::{Failed, Sink, StdSink, StdSource};
 use either::{Either, Left, Right};
 use std::fs::File;
 use std::rt::{HostRuntime, Stdin, Stdout};
@@ -20,6 +21,16 @@ impl HostDesk<'_> {
     }
 }
 
+/// The path of an input.
+fn input_path(name: &str) -> &str {
+    if name == "-" { "/dev/stdin" } else { name }
+}
+
+/// The path of an output.
+fn output_path(name: &str) -> &str {
+    if name == "-" { "/dev/stdout" } else { name }
+}
+
 impl Desk for HostDesk<'_> {
     type Input = StdSource<Either<Stdin, File>>;
 
@@ -28,6 +39,18 @@ impl Desk for HostDesk<'_> {
     type Report = StdSink<File>;
 
     ghost done = { λ _. None };
+
+    fn input_is_output(&mut self, from: &str, to: &str) -> bool {
+        is_one_file(self.rt, input_path(from), output_path(to))
+    }
+
+    fn input_is_report(&mut self, from: &str, report: &str) -> bool {
+        is_one_file(self.rt, input_path(from), report)
+    }
+
+    fn output_is_report(&mut self, to: &str, report: &str) -> bool {
+        is_one_file(self.rt, output_path(to), report)
+    }
 
     fn standard_input(&mut self) -> Self::Input {
         StdSource::new(Left(self.rt.stdin()))
@@ -58,7 +81,7 @@ impl Desk for HostDesk<'_> {
         }
     }
 
-    fn say(&mut self, text: &str) {
-        let _ = print!(self.rt; "{text}");
+    fn say(&mut self, text: &str) -> Result<(), Failed> {
+        StdSink::new(self.rt.stdout()).write(text.as_bytes())
     }
 }

@@ -5,6 +5,7 @@ mod arguments;
 mod desk;
 mod host;
 mod perform;
+mod same;
 
 use ac_app::WordsFault;
 use arguments::{behind_name, fault_of};

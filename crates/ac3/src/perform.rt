@@ -1,10 +1,12 @@
 //! All that the program does, over any desk.
-ghost use Rattle.std.specs.Prelude.{◌≡◌, false, [], ◌∷◌, List, map, string_bytes, IfOk, OnErr};
+ghost use Rattle.std.specs.Prelude.{◌≡◌, ◌⊎◌, false, [], ◌∷◌, List, map, string_bytes, MatchResult, OnErr};
 ghost use Rattle.ac_words.specs.Asked.{texts_of};
+ghost use Rattle.ac_words.specs.declared.fault.WordsFault.TheVariants.{Usage};
 ghost use Rattle.ac_app.specs.Lines.{status_line};
-ghost use Rattle.ac3.specs.Codes.{status_of_words};
-ghost use Rattle.ac3.specs.Deeds.{Deed, Did, asked, said, refused, report_file, told, told_report, tellings, is_dash, input_of, output_of, report_given, all_given, Stopped};
-ghost use Rattle.ac3.specs.Ends.{code_of_end, IfRan, IfOpenFault, IfNoWords, Leaves, tellings_of, RunsOn, StopsAt, Refuses};
+ghost use Rattle.ac_app.specs.declared.status.Status.TheVariants as statuses;
+ghost use Rattle.ac3.specs.Codes.{open_fault_line, status_of_words};
+ghost use Rattle.ac3.specs.Deeds.{Deed, Did, asked, said, unsaid, refused, report_file, told, told_report, tellings, is_dash, input_of, output_of, report_given, all_given, all_compared, is_one_name as is_one_name_text, is_shared as is_shared_by, AllGiven, Refused, Stopped};
+ghost use Rattle.ac3.specs.Ends.{code_of_end, IfRan, IfOpenFault, IfNoWords, IfUnsaid, Leaves, tellings_of, RunsOn, StopsAt, IsOutside, HasUnsaid};
 
 use crate::desk::Desk;
 use ac_app::{Failed, Names, NullSink, Sink, Source, Status, WordsFault, names, run};
@@ -21,15 +23,28 @@ pub struct Things<S, O, N> {
     pub report: Option<N>,
 }
 
+/// Which of the three are one file, as the desk says.
+#[derive(Clone, Copy)]
+pub struct Answers {
+    /// The input and the output.
+    pub input_output: bool,
+    /// The input and the report.
+    pub input_report: bool,
+    /// The output and the report.
+    pub output_report: bool,
+}
+
 /// How the program ended.
 #[derive(Drop)]
 pub enum Ended<S, O, N> {
     /// The command was run on these things.
     Ran(Status, Things<S, O, N>),
-    /// A thing couldn't be opened or created.
+    /// Two of the three names mean one file, or a thing couldn't be opened or created.
     OpenFault,
     /// There were no words to follow.
     NoWords(WordsFault),
+    /// The program's own line couldn't be printed.
+    Unsaid,
 }
 
 impl<S, O, N> Ended<S, O, N> {
@@ -42,6 +57,7 @@ impl<S, O, N> Ended<S, O, N> {
             Ended::OpenFault => 8,
             Ended::NoWords(WordsFault::Usage) => Status::Usage.code(),
             Ended::NoWords(WordsFault::NoMemory) => Status::NoMemory.code(),
+            Ended::Unsaid => Status::WriteFault.code(),
         }
     }
 }
@@ -69,9 +85,11 @@ fn open_output<D: Desk>(desk: &mut D, name: &str) -> Result<D::Output, Failed>
 /// The report: none for `-`.
 #[tactic(auto, using(crate::proofs::Deeds::did_nothing))]
 fn open_report<D: Desk>(desk: &mut D, name: &str) -> Result<Option<D::Report>, Failed>
-    ensures ok { IfOk result (λ report. Did (D.done desk.old) (D.done desk.new) (report_given name.now (told_report D.Report.held D.Report.faults report))) }
-    ensures named { OnErr result (is_dash name.now ≡ false) }
-    ensures failed { OnErr result (Did (D.done desk.old) (D.done desk.new) (refused (report_file name.now) ∷ [])) }
+    ensures told { MatchResult result
+        (λ report. Did (D.done desk.old) (D.done desk.new)
+        (report_given name.now (told_report D.Report.held D.Report.faults report)))
+        (λ _. Did (D.done desk.old) (D.done desk.new) (refused (report_file name.now) ∷ [])) }
+    ensures cause { OnErr result (is_dash name.now ≡ false) }
 {
     if name == "-" {
         return Ok(None);
@@ -87,9 +105,10 @@ fn open_all<D: Desk>(
     desk: &mut D,
     named: Names<'_>,
 ) -> Result<Things<D::Input, D::Output, D::Report>, Failed>
-    ensures ok { IfOk result (λ t. Did (D.done desk.old) (D.done desk.new) (all_given (texts_of named.entry)
-        (tellings_of D.Input.left D.Input.faults D.Output.held D.Output.faults D.Report.held D.Report.faults t))) }
-    ensures failed { OnErr result ((deeds : List Deed) × Stopped (texts_of named.entry) deeds × Did (D.done desk.old) (D.done desk.new) deeds) }
+    ensures { MatchResult result
+        (λ t. Did (D.done desk.old) (D.done desk.new) (all_given (texts_of named.entry)
+        (tellings_of D.Input.left D.Input.faults D.Output.held D.Output.faults D.Report.held D.Report.faults t)))
+        (λ _. (deeds : List Deed) × Refused (texts_of named.entry) deeds × Did (D.done desk.old) (D.done desk.new) deeds) }
 {
     let Ok(input) = open_input(desk, named.from) else {
         return Err(Failed);
@@ -105,6 +124,62 @@ fn open_all<D: Desk>(
         output,
         report,
     })
+}
+
+/// Whether two words are the same name. `-` names no file.
+fn is_one_name(one: &str, other: &str) -> bool
+    ensures { result ≡ is_one_name_text one.now other.now }
+{
+    one != "-" && one == other
+}
+
+/// Asks the desk which of the three are one file.
+#[tactic(auto, using(crate::proofs::Deeds::did_then))]
+fn compare<D: Desk>(desk: &mut D, named: Names<'_>) -> Answers
+    ensures { Did (D.done desk.old) (D.done desk.new) (all_compared (texts_of named.entry) result) }
+{
+    let input_output = desk.input_is_output(named.from, named.to);
+    if named.report == "-" {
+        return Answers {
+            input_output,
+            input_report: false,
+            output_report: false,
+        };
+    }
+    let input_report = desk.input_is_report(named.from, named.report);
+    let output_report = desk.output_is_report(named.to, named.report);
+    Answers {
+        input_output,
+        input_report,
+        output_report,
+    }
+}
+
+/// Whether two of the three names mean one file.
+fn is_shared(named: Names<'_>, answers: Answers) -> bool
+    ensures { result ≡ is_shared_by (texts_of named.entry) answers }
+{
+    let read = is_one_name(named.from, named.to) || answers.input_output;
+    let reported = is_one_name(named.from, named.report) || answers.input_report;
+    let written = is_one_name(named.to, named.report) || answers.output_report;
+    read || (named.report != "-" && (reported || written))
+}
+
+/// The three things in the order of their names, where no two of them are one file.
+fn open_apart<D: Desk>(
+    desk: &mut D,
+    named: Names<'_>,
+) -> Result<Things<D::Input, D::Output, D::Report>, Failed>
+    ensures { (deeds : List Deed) × Did (D.done desk.old) (D.done desk.new) deeds × MatchResult result
+        (λ t. AllGiven (texts_of named.entry)
+        (tellings_of D.Input.left D.Input.faults D.Output.held D.Output.faults D.Report.held D.Report.faults t) deeds)
+        (λ _. Stopped (texts_of named.entry) deeds) }
+{
+    let answers = compare(desk, named);
+    if is_shared(named, answers) {
+        return Err(Failed);
+    }
+    open_all(desk, named)
 }
 
 /// Runs the words on the things.
@@ -128,20 +203,37 @@ fn work<S: Source, O: Sink, N: Sink>(
     }
 }
 
+/// The end of a program that prints a line of its own: another one where it couldn't be printed.
+fn end_with<D: Desk>(
+    desk: &mut D,
+    line: &str,
+    end: Ended<D::Input, D::Output, D::Report>,
+) -> Ended<D::Input, D::Output, D::Report>
+    ensures { ((result ≡ end) × Did (D.done desk.old) (D.done desk.new) (said line.now ∷ []))
+        ⊎ ((result ≡ Ended.Unsaid) × Did (D.done desk.old) (D.done desk.new) (unsaid line.now ∷ [])) }
+{
+    match desk.say(line) {
+        Ok(()) => end,
+        Err(_) => Ended::Unsaid,
+    }
+}
+
 /// Ends where there are no words to follow, and says why.
 pub fn refuse<D: Desk>(desk: &mut D, fault: WordsFault) -> Ended<D::Input, D::Output, D::Report>
-    ensures end { result ≡ Ended.NoWords fault }
-    ensures line { Did (D.done desk.old) (D.done desk.new) (said (status_line (status_of_words fault)) ∷ []) }
+    ensures { ((result ≡ Ended.NoWords fault)
+        × Did (D.done desk.old) (D.done desk.new) (said (status_line (status_of_words fault)) ∷ []))
+        ⊎ ((result ≡ Ended.Unsaid)
+        × Did (D.done desk.old) (D.done desk.new) (unsaid (status_line (status_of_words fault)) ∷ [])) }
 {
     let line = match fault {
         WordsFault::Usage => "status 1 usage\n",
         WordsFault::NoMemory => "status 9 no memory\n",
     };
-    desk.say(line);
-    Ended::NoWords(fault)
+    end_with(desk, line, Ended::NoWords(fault))
 }
 
-/// Opens the three named things in order, runs the words on them, and gives the things back; or says why not.
+/// Opens the three named things in order, runs the words on them, and gives the things back; or says why not. Where
+/// two of the names mean one file nothing is opened, created or emptied.
 pub fn perform<D: Desk>(
     alloc: Global,
     words: &[String],
@@ -149,16 +241,18 @@ pub fn perform<D: Desk>(
 ) -> Ended<D::Input, D::Output, D::Report>
     ensures ran { IfRan result (λ status t. RunsOn (map string_bytes words.now) status (D.done desk.old) (D.done desk.new)
         (tellings_of D.Input.left D.Input.faults D.Output.held D.Output.faults D.Report.held D.Report.faults t)) }
-    ensures stopped { IfOpenFault result (StopsAt (map string_bytes words.now) (D.done desk.old) (D.done desk.new)) }
-    ensures no_words { IfNoWords result (λ fault. Refuses (map string_bytes words.now) fault (D.done desk.old) (D.done desk.new)) }
+    ensures stopped { IfOpenFault result
+        (StopsAt (map string_bytes words.now) (said open_fault_line) (D.done desk.old) (D.done desk.new)) }
+    ensures no_words { IfNoWords result (λ fault. (fault ≡ Usage)
+        × IsOutside (map string_bytes words.now) (said (status_line statuses.Usage)) (D.done desk.old) (D.done desk.new)) }
+    ensures unsaid { IfUnsaid result (HasUnsaid (map string_bytes words.now) (D.done desk.old) (D.done desk.new)) }
 {
     let named = match names(alloc, words) {
         Ok(named) => named,
         Err(fault) => return refuse(desk, fault),
     };
-    let Ok(mut things) = open_all(desk, named) else {
-        desk.say("status 8 open fault\n");
-        return Ended::OpenFault;
+    let Ok(mut things) = open_apart(desk, named) else {
+        return end_with(desk, "status 8 open fault\n", Ended::OpenFault);
     };
     let status = work(alloc, words, &mut things);
     Ended::Ran(status, things)

@@ -11,11 +11,14 @@ use std::test::Fail;
 const EMPTY: [u8; 44] =
     *b"RIFF\x24\0\0\0WAVEfmt \x10\0\0\0\x01\0\x01\0\x80\xbb\0\0\0\x77\x01\0\x02\0\x10\0data\0\0\0\0";
 
-/// A desk whose inputs are the empty WAV. One name is refused.
+/// A desk whose inputs are the empty WAV. One name is refused, and two names are one file.
 #[derive(Drop)]
 struct Notes {
     alloc: Global,
     refused: &'static str,
+    one_file: (&'static str, &'static str),
+    /// Whether nothing can be printed.
+    is_mute: bool,
     noted: String,
     /// Whether memory was wanting for a note or for an input.
     is_starved: bool,
@@ -28,6 +31,12 @@ impl Notes {
                 self.is_starved = true;
             }
         }
+    }
+
+    fn compare(&mut self, one: &str, other: &str) -> bool {
+        self.note(one, "");
+        self.note("is ", other);
+        self.one_file == (one, other)
     }
 
     fn wav(&mut self) -> MemSource {
@@ -64,6 +73,18 @@ impl Desk for Notes {
 
     ghost done = { λ _. None };
 
+    fn input_is_output(&mut self, from: &str, to: &str) -> bool {
+        self.compare(from, to)
+    }
+
+    fn input_is_report(&mut self, from: &str, report: &str) -> bool {
+        self.compare(from, report)
+    }
+
+    fn output_is_report(&mut self, to: &str, report: &str) -> bool {
+        self.compare(to, report)
+    }
+
     fn standard_input(&mut self) -> MemSource {
         self.note("standard input", "");
         self.wav()
@@ -90,8 +111,12 @@ impl Desk for Notes {
         self.create("report ", name)
     }
 
-    fn say(&mut self, text: &str) {
+    fn say(&mut self, text: &str) -> Result<(), Failed> {
+        if self.is_mute {
+            return Err(Failed);
+        }
         self.note("say ", text);
+        Ok(())
     }
 }
 
@@ -130,11 +155,32 @@ impl Left {
     }
 }
 
-fn once(alloc: Global, names: &[&str], refused: &'static str) -> Result<Left, AllocError> {
-    let words = words_of(alloc, names)?;
+/// What the desk is asked: three names, the name that it refuses, those that are one file, and whether it is mute.
+#[derive(Clone, Copy)]
+struct Case {
+    names: [&'static str; 3],
+    refused: &'static str,
+    one_file: (&'static str, &'static str),
+    is_mute: bool,
+}
+
+/// Three names, none of which is refused.
+fn plain(names: [&'static str; 3]) -> Case {
+    Case {
+        names,
+        refused: "",
+        one_file: ("", ""),
+        is_mute: false,
+    }
+}
+
+fn once(alloc: Global, case: Case) -> Result<Left, AllocError> {
+    let words = words_of(alloc, &case.names)?;
     let mut desk = Notes {
         alloc,
-        refused,
+        refused: case.refused,
+        one_file: case.one_file,
+        is_mute: case.is_mute,
         noted: String::new(alloc),
         is_starved: false,
     };
@@ -143,61 +189,100 @@ fn once(alloc: Global, names: &[&str], refused: &'static str) -> Result<Left, Al
 }
 
 /// What the program leaves; made again once where memory was wanting.
-fn performed(rt: &HostRuntime, names: &[&str], refused: &'static str) -> Result<Left, AllocError> {
-    match once(rt.alloc(), names, refused) {
+fn performed(rt: &HostRuntime, case: Case) -> Result<Left, AllocError> {
+    match once(rt.alloc(), case) {
         Ok(left) if !left.is_starved() => Ok(left),
         _ => {
             let _ = println!(rt; "made again");
-            once(rt.alloc(), names, refused)
+            once(rt.alloc(), case)
         }
     }
 }
 
-/// Whether the program ends with this code, and notes this, where one name is refused.
-fn does(
-    rt: &HostRuntime,
-    names: &[&str],
-    refused: &'static str,
-    code: u8,
-    noted: &str,
-) -> Result<bool, AllocError> {
-    let left = performed(rt, names, refused)?;
+/// Whether the program ends with this code, and notes this.
+fn does(rt: &HostRuntime, case: Case, code: u8, noted: &str) -> Result<bool, AllocError> {
+    let left = performed(rt, case)?;
     Ok(left.ended.code() == code && left.desk.noted.as_str() == noted)
 }
 
 #[test]
 fn asked_in_order(rt: HostRuntime) -> Result<(), Fail> {
-    let noted = "open a;output b;report c;";
-    assert!(rt; does(&rt, &["a", "b", "c"], "", 0, noted)?);
-    let noted = "standard input;standard output;";
-    assert!(rt; does(&rt, &["-", "-", "-"], "", 0, noted)?);
+    let noted = "a;is b;a;is c;b;is c;open a;output b;report c;";
+    assert!(rt; does(&rt, plain(["a", "b", "c"]), 0, noted)?);
+    let noted = "-;is -;standard input;standard output;";
+    assert!(rt; does(&rt, plain(["-", "-", "-"]), 0, noted)?);
     Ok(())
 }
 
 #[test]
 fn the_first_that_is_refused_is_the_last(rt: HostRuntime) -> Result<(), Fail> {
     for (refused, noted) in [
-        ("a", "open a;say status 8 open fault\n;"),
-        ("b", "open a;output b;say status 8 open fault\n;"),
-        ("c", "open a;output b;report c;say status 8 open fault\n;"),
+        (
+            "a",
+            "a;is b;a;is c;b;is c;open a;say status 8 open fault\n;",
+        ),
+        (
+            "b",
+            "a;is b;a;is c;b;is c;open a;output b;say status 8 open fault\n;",
+        ),
+        (
+            "c",
+            "a;is b;a;is c;b;is c;open a;output b;report c;say status 8 open fault\n;",
+        ),
     ] {
-        assert!(rt;
-            does(&rt, &["a", "b", "c"], refused, 8, noted)?,
-            "{refused}"
-        );
+        let case = Case {
+            refused,
+            ..plain(["a", "b", "c"])
+        };
+        assert!(rt; does(&rt, case, 8, noted)?, "{refused}");
     }
     Ok(())
 }
 
 #[test]
+fn two_names_of_one_file_open_nothing(rt: HostRuntime) -> Result<(), Fail> {
+    let noted = "a;is b;a;is c;b;is c;say status 8 open fault\n;";
+    for one_file in [("a", "b"), ("a", "c"), ("b", "c")] {
+        let case = Case {
+            one_file,
+            ..plain(["a", "b", "c"])
+        };
+        assert!(rt; does(&rt, case, 8, noted)?);
+    }
+    let noted = "a;is a;say status 8 open fault\n;";
+    assert!(rt; does(&rt, plain(["a", "a", "-"]), 8, noted)?);
+    let noted = "a;is b;a;is a;b;is a;say status 8 open fault\n;";
+    assert!(rt; does(&rt, plain(["a", "b", "a"]), 8, noted)?);
+    let noted = "a;is b;a;is b;b;is b;say status 8 open fault\n;";
+    assert!(rt; does(&rt, plain(["a", "b", "b"]), 8, noted)?);
+    Ok(())
+}
+
+#[test]
+fn a_line_that_is_not_printed_is_a_write_fault(rt: HostRuntime) -> Result<(), Fail> {
+    let case = Case {
+        refused: "a",
+        is_mute: true,
+        ..plain(["a", "-", "-"])
+    };
+    assert!(rt; does(&rt, case, 7, "a;is -;open a;")?);
+    let case = Case {
+        is_mute: true,
+        ..plain(["a", "b", ""])
+    };
+    assert!(rt; does(&rt, case, 7, "")?);
+    Ok(())
+}
+
+#[test]
 fn outside_the_grammar_nothing_is_asked(rt: HostRuntime) -> Result<(), Fail> {
-    assert!(rt; does(&rt, &["a", "b"], "", 1, "say status 1 usage\n;")?);
+    assert!(rt; does(&rt, plain(["a", "b", ""]), 1, "say status 1 usage\n;")?);
     Ok(())
 }
 
 #[test]
 fn the_report_has_the_status(rt: HostRuntime) -> Result<(), Fail> {
-    let left = performed(&rt, &["a", "b", "c"], "")?;
+    let left = performed(&rt, plain(["a", "b", "c"]))?;
     match &left.ended {
         Ended::Ran(status, things) => {
             assert_eq!(rt; *status, Status::Ok);

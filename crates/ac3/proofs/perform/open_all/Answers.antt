@@ -3,12 +3,12 @@ use Rattle.ac3.specs.Deeds.{told, given, refused, input_of, output_of, report_fi
 use Rattle.ac3.proofs.Deeds.{did_then}
 use Rattle.ac3.proofs.perform.open_all.Goals as goal
 
-pub returns-in_default-clause-failed : goal.returns-in_default-clause-failed
-returns-in_default-clause-failed g c =
+pub returns-in_default : goal.returns-in_default
+returns-in_default g c =
     (refused (input_of c.args.named.from.now) ∷ [], no_input, c.in_default.ensures)
 
-pub returns-in_default-open_output-clause-failed : goal.returns-in_default-open_output-clause-failed
-returns-in_default-open_output-clause-failed g c =
+pub returns-in_default-open_output : goal.returns-in_default-open_output
+returns-in_default-open_output g c =
     let i = told (g.D.Input.Source.left c.in-Ok.input) (g.D.Input.Source.faults c.in-Ok.input) in
     let opened = given (input_of c.args.named.from.now) i ∷ [] in
     let failed = refused (output_of c.args.named.to.now) ∷ [] in (
@@ -17,8 +17,8 @@ returns-in_default-open_output-clause-failed g c =
       did_then (g.D.Desk.done c.args.desk.now) (g.D.Desk.done c.open_input.new.desk) (g.D.Desk.done c.open_output.new.desk) opened failed c.in-Ok.ensures c.in_default-open_output.ensures,
     )
 
-pub returns-in_default-open_report-clause-failed : goal.returns-in_default-open_report-clause-failed
-returns-in_default-open_report-clause-failed g c =
+pub returns-in_default-open_report : goal.returns-in_default-open_report
+returns-in_default-open_report g c =
     let i = told (g.D.Input.Source.left c.in-Ok.input) (g.D.Input.Source.faults c.in-Ok.input) in
     let o = told (g.D.Output.Sink.held c.in-Ok-open_output.output) (g.D.Output.Sink.faults c.in-Ok-open_output.output) in
     let first = given (input_of c.args.named.from.now) i ∷ [] in
@@ -29,7 +29,7 @@ returns-in_default-open_report-clause-failed g c =
     let two = g.D.Desk.done c.open_output.new.desk in
     let last = g.D.Desk.done c.open_report.new.desk in (
       given (input_of c.args.named.from.now) i ∷ given (output_of c.args.named.to.now) o ∷ failed,
-      no_report i o c.in_default-open_report.ensures.named,
+      no_report i o c.in_default-open_report.ensures.cause,
       did_then start one last first (given (output_of c.args.named.to.now) o ∷ failed) c.in-Ok.ensures
-          (did_then one two last second failed c.in-Ok-open_output.ensures c.in_default-open_report.ensures.failed),
+          (did_then one two last second failed c.in-Ok-open_output.ensures c.in_default-open_report.ensures.told),
     )
