@@ -8,3 +8,4 @@ pub mod Endings
 pub mod Each
 pub mod Fronts
 pub mod Exact
+pub mod Before

@@ -14,10 +14,10 @@ pub record GoesOn (bytes : List ℕ) (place : ℕ) : Type 0 where
   pub within : place + whole_length (size_of (drop place bytes)) ≤ length bytes
   pub no_data : name_of (drop place bytes) ≢ codes "data"
 
-begins_name : (c x l : List ℕ) → IsChunk c → l ≡ c ++ x → name_of l ≡ name_of c
+pub begins_name : (c x l : List ℕ) → IsChunk c → l ≡ c ++ x → name_of l ≡ name_of c
 begins_name c x l h e = let long = least_long c h in ap name_of e ∙ take-append-le 4 c x (omega arith)
 
-begins_size : (c x l : List ℕ) → IsChunk c → l ≡ c ++ x → size_of l ≡ size_of c
+pub begins_size : (c x l : List ℕ) → IsChunk c → l ≡ c ++ x → size_of l ≡ size_of c
 begins_size c x l h e = ap size_of e ∙ front_size c x h
 
 goes_on : (bytes : List ℕ) (place : ℕ) (c x : List ℕ) → IsChunk c → name_of c ≢ codes "data" → drop place bytes ≡ c ++ x → GoesOn bytes place
@@ -52,7 +52,7 @@ faulty_has bytes kind place f =
     let rest = drop (length f.chunk) (drop f.start bytes) in
     record { opened = f.opened; whole = f.whole; named = f.named; rest = rest; same = sym (take-append-drop (length f.chunk) (drop f.start bytes)) ∙ ap (λ l. l ++ rest) f.same }
 
-none_earlier : (bytes chunk : List ℕ) (p q : ℕ) → HasFormat bytes chunk p → IsOpen bytes q → p < q → ⊥
+pub none_earlier : (bytes chunk : List ℕ) (p q : ℕ) → HasFormat bytes chunk p → IsOpen bytes q → p < q → ⊥
 none_earlier bytes chunk p q f o h =
     let a = open_before bytes p q f.opened o h in
     a.passed.no_format (sym (begins_name a.chunk a.rest (drop p bytes) a.passed.whole a.same) ∙ (begins_name chunk f.rest (drop p bytes) f.whole f.same ∙ f.named))
@@ -86,7 +86,7 @@ open_goes bytes chunk place start o f =
       ]
     ]
 
-formatted_long : (bytes chunk : List ℕ) (place : ℕ) (f : IsFormatted bytes chunk place) → place ≡ f.start + (length chunk + length (concat f.passed))
+pub formatted_long : (bytes chunk : List ℕ) (place : ℕ) (f : IsFormatted bytes chunk place) → place ≡ f.start + (length chunk + length (concat f.passed))
 formatted_long bytes chunk place f =
     let a : length (take place bytes) ≡ place = length-take-le place bytes f.within in
     let b : length (take f.start bytes) ≡ f.start = length-take-le f.start bytes f.opened.within in

@@ -79,6 +79,8 @@ pub fn read_chunk_head<S: Source>(
         (λ chunk. ChunkRead bytes place chunk (S.left input.new)) (λ fault. RefusalLeaves bytes limit fault (S.left input.new)) }
     ensures cause { (bytes : List ℕ) → IsAt bytes place (S.left input.old) → IfErr result (IsNoChunk bytes place limit) }
     ensures most_read { (bytes : List ℕ) → IsAt bytes place (S.left input.old) → TakesAtMost bytes (limit + 1) (S.left input.new) }
+    ensures no_further { (bytes : List ℕ) → IsAt bytes place (S.left input.old) → IsErrOf result WavFault.ReadFault
+        → TakesAtMost bytes (place + 8) (S.left input.new) }
     ensures rose { IsErrOf result WavFault.ReadFault → Rose (S.faults input.old) (S.faults input.new) }
     ensures never_falls { S.faults input.old ≤ S.faults input.new }
 {

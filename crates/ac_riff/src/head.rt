@@ -2,7 +2,7 @@
 ghost use Rattle.std.specs.Prelude.{◌≡◌, ◌≢◌, ℕ, ◌+◌, ◌≤◌, ◌<◌, ◌⊎◌, List, length, drop, codes, Option, Some, None, take, IfOk, IfErr, OnOk, MatchOption, MatchResult, IsErrOf, Err};
 ghost use Rattle.ac_io.specs.Outside.{Rose};
 ghost use Rattle.ac_riff.specs.Format.{fields_of, fault_of, fscod_of, IsFine};
-ghost use Rattle.ac_riff.specs.Form.{name_of, size_of, padded, whole_length, IsRiff, IsOpen, IsFormatted, IsDataAt, head_of, data_size, IsOfProfile};
+ghost use Rattle.ac_riff.specs.Form.{name_of, size_of, padded, whole_length, IsRiff, IsOpen, IsFormatted, IsDataAt, IsHead, head_of, data_size, IsOfProfile};
 ghost use Rattle.ac_riff.specs.Refusal.{Reaches, IsNoRiff, IsStopped, RefusalLeaves, HeadRead, ReadsExactly};
 ghost use Rattle.ac_io.specs.Within.{IsAt, ReadsOn, TakesAtMost};
 ghost use Rattle.ac_riff.specs.Pieces.{IsUntaken, ChunkRead, FormatRead, IsFound, DataFound};
@@ -71,6 +71,8 @@ fn read_riff<S: Source>(input: &mut S, limit: u64) -> Result<(), WavFault>
         (λ fault. RefusalLeaves bytes limit fault (S.left input.new)) }
     ensures cause { (bytes : List ℕ) → S.left input.old ≡ Some bytes → IfErr result (IsStopped bytes limit) }
     ensures most_read { (bytes : List ℕ) → S.left input.old ≡ Some bytes → TakesAtMost bytes (limit + 1) (S.left input.new) }
+    ensures no_further { (bytes : List ℕ) → S.left input.old ≡ Some bytes → IsErrOf result WavFault.ReadFault
+        → TakesAtMost bytes 12 (S.left input.new) }
     ensures rose { IsErrOf result WavFault.ReadFault → Rose (S.faults input.old) (S.faults input.new) }
     ensures never_falls { S.faults input.old ≤ S.faults input.new }
 {
@@ -98,6 +100,8 @@ fn read_format<S: Source>(
         → IfErr result (IsUntaken bytes (place + 8) (padded size) limit) }
     ensures size { IfOk result (λ format. format.size ≡ size) }
     ensures most_read { (bytes : List ℕ) → IsAt bytes (place + 8) (S.left input.old) → TakesAtMost bytes (limit + 1) (S.left input.new) }
+    ensures no_further { (bytes : List ℕ) → IsAt bytes (place + 8) (S.left input.old) → IsErrOf result WavFault.ReadFault
+        → TakesAtMost bytes (place + whole_length size) (S.left input.new) }
     ensures rose { IsErrOf result WavFault.ReadFault → Rose (S.faults input.old) (S.faults input.new) }
     ensures never_falls { S.faults input.old ≤ S.faults input.new }
 {
@@ -123,6 +127,8 @@ fn accept<S: Source>(input: &mut S, place: u64, limit: u64, size: u32) -> Result
         → name_of (drop place bytes) ≡ codes "fmt "
         → size ≡ size_of (drop place bytes) → IfErr result (IsStopped bytes limit) }
     ensures most_read { (bytes : List ℕ) → IsAt bytes (place + 8) (S.left input.old) → TakesAtMost bytes (limit + 1) (S.left input.new) }
+    ensures no_further { (bytes : List ℕ) → IsAt bytes (place + 8) (S.left input.old) → IsErrOf result WavFault.ReadFault
+        → TakesAtMost bytes (place + whole_length size) (S.left input.new) }
     ensures rose { IsErrOf result WavFault.ReadFault → Rose (S.faults input.old) (S.faults input.new) }
     ensures never_falls { S.faults input.old ≤ S.faults input.new }
 {
@@ -155,6 +161,8 @@ fn pass_chunk<S: Source>(
         → name_of (drop place bytes) ≢ codes "data"
         → chunk.now.size ≡ size_of (drop place bytes) → IfErr result (IsStopped bytes limit) }
     ensures most_read { (bytes : List ℕ) → IsAt bytes (place + 8) (S.left input.old) → TakesAtMost bytes (limit + 1) (S.left input.new) }
+    ensures no_further { (bytes : List ℕ) → IsAt bytes (place + 8) (S.left input.old) → IsErrOf result WavFault.ReadFault
+        → TakesAtMost bytes (place + whole_length chunk.now.size) (S.left input.new) }
     ensures rose { IsErrOf result WavFault.ReadFault → Rose (S.faults input.old) (S.faults input.new) }
     ensures never_falls { S.faults input.old ≤ S.faults input.new }
 {
@@ -174,6 +182,8 @@ fn find_format<S: Source>(input: &mut S, limit: u64) -> Result<Found, WavFault>
     ensures cause { (bytes : List ℕ) → IsOpen bytes 12 → IsAt bytes 12 (S.left input.old) → IfErr result (IsStopped bytes limit) }
     ensures most_read { (bytes : List ℕ) → IsOpen bytes 12 → IsAt bytes 12 (S.left input.old)
         → TakesAtMost bytes (limit + 1) (S.left input.new) }
+    ensures before_data { (bytes : List ℕ) (head : WavHead) → IsOpen bytes 12 → IsAt bytes 12 (S.left input.old) → IsHead bytes head
+        → IsErrOf result WavFault.ReadFault → TakesAtMost bytes head.taken (S.left input.new) }
     ensures rose { IsErrOf result WavFault.ReadFault → Rose (S.faults input.old) (S.faults input.new) }
     ensures never_falls { S.faults input.old ≤ S.faults input.new }
 {
@@ -199,6 +209,8 @@ fn find_samples<S: Source>(input: &mut S, start: u64, limit: u64) -> Result<Samp
         → IfErr result (IsStopped bytes limit) }
     ensures most_read { (bytes chunk : List ℕ) → IsFormatted bytes chunk start → IsAt bytes start (S.left input.old)
         → TakesAtMost bytes (limit + 1) (S.left input.new) }
+    ensures before_data { (bytes chunk : List ℕ) (head : WavHead) → IsFormatted bytes chunk start → IsAt bytes start (S.left input.old)
+        → IsHead bytes head → IsErrOf result WavFault.ReadFault → TakesAtMost bytes head.taken (S.left input.new) }
     ensures rose { IsErrOf result WavFault.ReadFault → Rose (S.faults input.old) (S.faults input.new) }
     ensures never_falls { S.faults input.old ≤ S.faults input.new }
 {
@@ -258,7 +270,7 @@ fn head(format: &Format, samples: &Samples) -> WavHead
 }
 
 impl WavHead {
-    /// Reads a WAV to the first byte of its data. Takes at most `limit` + 1 bytes, whatever it answers.
+    /// Reads a WAV to the first byte of its data. Takes at most `limit` + 1 bytes, and none of the data, whatever it answers.
     ///
     /// # Errors
     ///
@@ -274,6 +286,8 @@ impl WavHead {
         ensures profile { IfOk result (λ head. IsOfProfile head) }
         ensures bound { IfOk result (λ head. head.taken ≤ limit) }
         ensures most_read { (bytes : List ℕ) → S.left input.old ≡ Some bytes → TakesAtMost bytes (limit + 1) (S.left input.new) }
+        ensures before_data { (bytes : List ℕ) (head : WavHead) → S.left input.old ≡ Some bytes → IsHead bytes head
+            → TakesAtMost bytes head.taken (S.left input.new) }
         ensures rose { IsErrOf result WavFault.ReadFault → Rose (S.faults input.old) (S.faults input.new) }
         ensures never_falls { S.faults input.old ≤ S.faults input.new }
     {

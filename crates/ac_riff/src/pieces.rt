@@ -31,6 +31,8 @@ pub fn read_piece<S: Source>(
     ensures cause { (bytes : List ℕ) → IsAt bytes taken (S.left input.old)
         → IfErr result (IsUnread bytes taken (length into.old) limit) }
     ensures most_read { (bytes : List ℕ) → IsAt bytes taken (S.left input.old) → TakesAtMost bytes (limit + 1) (S.left input.new) }
+    ensures no_further { (bytes : List ℕ) → IsAt bytes taken (S.left input.old) → IsErrOf result WavFault.ReadFault
+        → TakesAtMost bytes (taken + length into.old) (S.left input.new) }
     ensures rose { IsErrOf result WavFault.ReadFault → Rose (S.faults input.old) (S.faults input.new) }
     ensures never_falls { S.faults input.old ≤ S.faults input.new }
 {
@@ -60,6 +62,8 @@ pub fn read_exact<S: Source>(
     ensures cause { (bytes : List ℕ) → IsAt bytes taken (S.left input.old)
         → IfErr result (IsUntaken bytes taken (length into.old) limit) }
     ensures most_read { (bytes : List ℕ) → IsAt bytes taken (S.left input.old) → TakesAtMost bytes (limit + 1) (S.left input.new) }
+    ensures no_further { (bytes : List ℕ) → IsAt bytes taken (S.left input.old) → IsErrOf result WavFault.ReadFault
+        → TakesAtMost bytes (taken + length into.old) (S.left input.new) }
     ensures rose { IsErrOf result WavFault.ReadFault → Rose (S.faults input.old) (S.faults input.new) }
     ensures never_falls { S.faults input.old ≤ S.faults input.new }
 {
@@ -88,6 +92,8 @@ pub fn pass_over<S: Source>(
         (λ fault. RefusalLeaves bytes limit fault (S.left input.new)) }
     ensures cause { (bytes : List ℕ) → IsAt bytes taken (S.left input.old) → IfErr result (IsUntaken bytes taken count limit) }
     ensures most_read { (bytes : List ℕ) → IsAt bytes taken (S.left input.old) → TakesAtMost bytes (limit + 1) (S.left input.new) }
+    ensures no_further { (bytes : List ℕ) → IsAt bytes taken (S.left input.old) → IsErrOf result WavFault.ReadFault
+        → TakesAtMost bytes (taken + count) (S.left input.new) }
     ensures rose { IsErrOf result WavFault.ReadFault → Rose (S.faults input.old) (S.faults input.new) }
     ensures never_falls { S.faults input.old ≤ S.faults input.new }
 {

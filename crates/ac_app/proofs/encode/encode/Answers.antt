@@ -7,7 +7,7 @@ use Rattle.ac_app.proofs.encode.encode.Goals as goal
 
 pub returns-in-Err-clause-told : goal.returns-in-Err-clause-told
 returns-in-Err-clause-told g c = λ bytes e.
-    stops_before c.args.options c.in-Err.fault c.unread.result bytes _ _ c.unread.ensures (record { untaken = λ head is. ?; unwritten = refl })
+    stops_before c.args.options c.in-Err.fault c.unread.result bytes _ _ c.unread.ensures (record { untaken = λ head is. c.in-Err.ensures.before_data bytes head e is; unwritten = refl })
 
 pub returns-in-Err-clause-cause : goal.returns-in-Err-clause-cause
 returns-in-Err-clause-cause g c = λ bytes e.

@@ -4,6 +4,7 @@ use Rattle.ac_riff.specs.declared.chunk.Name.{Name}
 use Rattle.ac_riff.specs.Form.{name_of}
 use Rattle.ac_riff.specs.Pieces.{NameIs}
 use Rattle.ac_riff.proofs.Stops.{no_chunk_stops, formatted_next, no_data}
+use Rattle.ac_riff.proofs.Before.{at_most_more, handed, head_behind, chunk_behind}
 use Rattle.ac_riff.proofs.head.find_samples.Goals as goal
 
 pub returns-in_err-chunk-clause-cause : goal.returns-in_err-chunk-clause-cause
@@ -61,3 +62,17 @@ returns-in_err-place-in_default-clause-told g c = λ bytes chunk f at.
     let before = c.loop-chunk.invariant.told bytes chunk f at in
     let r = c.in_ok-chunk.ensures.told bytes before.1 in
     rw (p.1, p.2) (c.in_err-place-in_default.ensures.told bytes (inr (chunk, before.0)) r.at (no_data c.in_ok-chunk.chunk.name _ r.named c.in_default.not-Samples) r.size_is)
+
+pub returns-in_err-chunk-clause-before_data : goal.returns-in_err-chunk-clause-before_data
+returns-in_err-chunk-clause-before_data g c = λ bytes chunk head f at is.
+    let p = err_from_is_err_and c.from_residual.result c.from_residual.ensures.1 in
+    let before = c.loop-chunk.invariant.told bytes chunk f at in
+    rw (p.1, p.2) (λ failed. at_most_more bytes _ head.taken _ (head_behind bytes head c.loop-chunk.place (inr (chunk, before.0)) is) (c.in_err-chunk.ensures.no_further bytes before.1 (handed c.in_err-chunk.field-0.0 failed)))
+
+pub returns-in_err-place-in_default-clause-before_data : goal.returns-in_err-place-in_default-clause-before_data
+returns-in_err-place-in_default-clause-before_data g c = λ bytes chunk head f at is.
+    let p = err_from_is_err_and c.from_residual-in_err-place-in_default.result c.from_residual-in_err-place-in_default.ensures.1 in
+    let before = c.loop-chunk.invariant.told bytes chunk f at in
+    let r = c.in_ok-chunk.ensures.told bytes before.1 in
+    let nd = no_data c.in_ok-chunk.chunk.name _ r.named c.in_default.not-Samples in
+    rw (p.1, p.2) (λ failed. at_most_more bytes _ head.taken _ (chunk_behind bytes head c.loop-chunk.place c.in_ok-chunk.chunk.size (inr (chunk, before.0)) is nd r.size_is) (c.in_err-place-in_default.ensures.no_further bytes r.at (handed c.in_err-place-in_default.field-0.0 failed)))
