@@ -2,12 +2,8 @@
 use Rattle.std.specs.Prelude.{◌≡◌, ℕ, Bool, true, false, not, ◌&&◌, ◌||◌, List, [], ◌∷◌, ◌++◌, Option, Some, None, Result, Ok, Err, codes, if◌then◌else◌}
 use Rattle.std.specs.Str.{bytes_eq}
 use Rattle.ac_words.specs.Grammar.{Text, LastWords}
+use Rattle.ac_app.specs.World.{Told, World}
 use Rattle.ac3.specs.declared.perform.Answers.{Answers}
-
--- what an object of the outside tells: its bytes, or not, and how many of its calls failed
-pub record Told : Type 0 where
-  pub bytes : Option (List ℕ)
-  pub faults : ℕ
 
 abbrev pub told : Option (List ℕ) → ℕ → Told
 told bytes faults = record { bytes = bytes; faults = faults }
@@ -76,13 +72,8 @@ is_shared n a = (is_one_name n.from n.to || a.input_output)
 -- ---- all three given, or one refused
 
 -- what the input, the output and the report tell
-pub record Tellings : Type 0 where
-  pub input : Told
-  pub output : Told
-  pub report : Told
-
-abbrev pub tellings : Told → Told → Told → Tellings
-tellings input output report = record { input = input; output = output; report = report }
+abbrev pub tellings : Told → Told → Told → World
+tellings input output report = record { input = input; sinks = record { output = output; report = report } }
 
 -- a report that is nowhere tells nothing
 abbrev pub told_report : {N : Type 0} → (N → Option (List ℕ)) → (N → ℕ) → Option N → Told
@@ -94,11 +85,11 @@ abbrev pub report_given : Text → Told → List Deed
 report_given name t = (if is_dash name then [] else given (report_file name) t ∷ [])
 
 -- the input, the output and the report were asked for and given, in this order
-abbrev pub all_given : LastWords → Tellings → List Deed
-all_given n t = given (input_of n.from) t.input ∷ given (output_of n.to) t.output ∷ report_given n.report t.report
+abbrev pub all_given : LastWords → World → List Deed
+all_given n t = given (input_of n.from) t.input ∷ given (output_of n.to) t.sinks.output ∷ report_given n.report t.sinks.report
 
 -- they were compared, no two are one file, and the three were asked for and given
-pub record AllGiven (n : LastWords) (t : Tellings) (deeds : List Deed) : Type 0 where
+pub record AllGiven (n : LastWords) (t : World) (deeds : List Deed) : Type 0 where
   pub answers : Answers
   pub apart : is_shared n answers ≡ false
   pub same : deeds ≡ all_compared n answers ++ all_given n t
