@@ -1,5 +1,5 @@
 -- From the head and the frames to the command encode.
-use Rattle.std.proofs.Common.{◌≡◌, ℕ, ◌≤◌, List, length, drop, Option, Some, refl, ap, sym, subst, ◌∙◌, arith, inl, inr, Result, Ok, Err}
+use Rattle.std.proofs.Common.{◌≡◌, ℕ, List, Option, refl, ap, sym, subst, arith, inl, inr, Result, Ok, Err}
 use Rattle.std.specs.Prelude.{MatchResult}
 use Rattle.ac_io.specs.Within.{TakesAtMost}
 use Rattle.ac_riff.specs.declared.fault.WavFault.{WavFault}
@@ -13,7 +13,7 @@ use Rattle.ac_words.specs.declared.meaning.Options.{Options}
 use Rattle.ac_app.specs.declared.frames.Stop.{Stop}
 use Rattle.ac_app.specs.declared.frames.Stop.TheVariants as stops
 use Rattle.ac_app.specs.declared.status.Status.{Status}
-use Rattle.ac_app.specs.Input.{limit, IsMono}
+use Rattle.ac_app.specs.Input.{limit}
 use Rattle.ac_app.specs.Loop.{StopLeaves, unread_status, ended_status}
 use Rattle.ac_app.specs.Run.{Encodes, StopsBefore, StopsIn, Breaks, EncodeLeaves, EncodeHasCause}
 use Rattle.ac_app.specs.World.{Told, Sinks, World}

@@ -1,20 +1,18 @@
 -- How a run ends.
-use Rattle.std.proofs.Common.{◌≡◌, ◌⊎◌, ℕ, ◌≤◌, arith, Bool, true, false, List, ◌++◌, refl, ap, ap₂, sym, subst, ◌∙◌, inl, inr}
-use Rattle.ac_io.specs.Outside.{Rose, Adds}
+use Rattle.std.proofs.Common.{◌≡◌, ℕ, arith, Bool, true, false, List, refl, ap, ap₂, sym, subst, ◌∙◌}
+use Rattle.ac_io.specs.Outside.{Adds}
 use Rattle.ac_io.proofs.Written.{adds_both}
 use Rattle.ac_riff.specs.declared.fault.WavKind.{WavKind}
 use Rattle.ac_riff.specs.declared.head.WavHead.{WavHead}
 use Rattle.ac_words.specs.Grammar.{Text}
-use Rattle.ac_words.specs.Asked.{GivesCommand}
-use Rattle.ac_words.specs.declared.meaning.Command.{Command}
 use Rattle.ac_words.specs.declared.meaning.Command.TheVariants.{Encode}
 use Rattle.ac_words.specs.declared.meaning.Options.{Options}
 use Rattle.ac_app.specs.declared.status.Status.{Status}
 use Rattle.ac_app.specs.declared.status.Status.TheVariants as statuses
 use Rattle.ac_app.specs.Input.{limit, IsBegun, IsInput, IsRefused, IsTooLong}
 use Rattle.ac_app.specs.Lines.{status_line}
-use Rattle.ac_app.specs.Run.{RoseFor, Encodes, CommandLeaves, CommandHasCause, JobLeaves, HasCause, Tail, answer_of, RunLeaves, IsEncoded, IsDone, AsksEncode}
-use Rattle.ac_app.specs.World.{Told, Sinks, World}
+use Rattle.ac_app.specs.Run.{Encodes, JobLeaves, HasCause, Tail, answer_of, RunLeaves, IsEncoded, IsDone, AsksEncode}
+use Rattle.ac_app.specs.World.{Told, World}
 use Rattle.ac_app.proofs.Inputs.{never_both, never_longer, never_refused, one_refusal}
 use Rattle.ac_app.proofs.Jobs.{in_grammar}
 

@@ -1,5 +1,5 @@
 -- Counts of faults, call after call.
-use Rattle.std.proofs.Common.{ℕ, ◌≤◌, arith, ◌⊎◌, inl, inr}
+use Rattle.std.proofs.Common.{ℕ, ◌≤◌, arith}
 use Rattle.ac_io.specs.Outside.{Rose}
 use Rattle.ac_app.specs.declared.emit.Broken.{Broken}
 use Rattle.ac_app.specs.declared.emit.Broken.TheVariants as broken_ones

@@ -2,8 +2,6 @@
 use Rattle.std.proofs.Common.{◌≡◌, ℕ, List, Option, Some, None, refl, sym, subst}
 use Rattle.std.specs.Prelude.{codes}
 use Rattle.ac_base.specs.Rates.{IsRate}
-use Rattle.ac_io.specs.Within.{TakesAtMost}
-use Rattle.ac_riff.specs.declared.head.WavHead.{WavHead}
 use Rattle.ac_words.specs.Grammar.{Text, InGrammar, RateOf, value_in}
 use Rattle.ac_words.specs.Asked.{GivesCommand, meaning_of}
 use Rattle.ac_words.specs.declared.meaning.Command.{Command}
@@ -12,7 +10,7 @@ use Rattle.ac_words.specs.declared.meaning.Options.{Options}
 use Rattle.ac_app.specs.declared.status.Status.{Status}
 use Rattle.ac_app.specs.declared.status.Status.TheVariants as statuses
 use Rattle.ac_app.specs.World.{World}
-use Rattle.ac_app.specs.Run.{StopsBefore, EncodeLeaves, IsLawful, CommandLeaves, CommandHasCause, JobLeaves, HasCause}
+use Rattle.ac_app.specs.Run.{EncodeLeaves, IsLawful, CommandLeaves, CommandHasCause, JobLeaves, HasCause}
 
 pub in_grammar : (ws : List Text) (c : Command) → GivesCommand ws c → InGrammar ws
 in_grammar ws c h = (meaning_of c h.0, h.1)

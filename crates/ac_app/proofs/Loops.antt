@@ -1,7 +1,7 @@
 -- The loop over the frames of an input.
-use Rattle.std.proofs.Common.{◌≡◌, ℕ, suc, ◌+◌, ◌-◌, ◌*◌, ◌/◌, ◌^◌, ◌<◌, ◌≤◌, min, Bool, true, false, List, [], length, drop, Option, Some, Result, Ok, Err, refl, ap, ap₂, sym, subst, ◌∙◌, arith, lit<, inl, inr, ℤ, pos, slice_index_or}
+use Rattle.std.proofs.Common.{◌≡◌, ℕ, ◌+◌, ◌*◌, ◌/◌, ◌<◌, ◌≤◌, Bool, true, false, List, [], drop, Option, Some, Err, refl, ap, sym, subst, ◌∙◌, arith, lit<, inr, ℤ, pos, slice_index_or}
 use Rattle.std.specs.Prelude.{nat_lt, ◌&&◌, if◌then◌else◌}
-use Rattle.std.proofs.lemmas.Bool.{cases_eq, le-ltb, ne_eqb}
+use Rattle.std.proofs.lemmas.Bool.{le-ltb, ne_eqb}
 use Rattle.std.proofs.Math.Nat.{le-div_iff_mul-le, div-lt_iff_lt-mul, add-mul}
 use Rattle.std.proofs.lemmas.Nat.{mul-le}
 use Rattle.ac_io.specs.Within.{IsAt}
@@ -10,22 +10,21 @@ use Rattle.ac_riff.specs.declared.fault.WavFault.{WavFault}
 use Rattle.ac_riff.specs.declared.fault.WavFault.TheVariants as wav
 use Rattle.ac_riff.specs.declared.head.WavHead.{WavHead}
 use Rattle.ac_riff.specs.Form.{IsHead}
-use Rattle.ac_wav.specs.Body.{head_in, limit_of, taken_by, IsBehind, StandsBehind}
+use Rattle.ac_wav.specs.Body.{head_in, taken_by, IsBehind, StandsBehind}
 use Rattle.ac_riff.specs.Refusal.{HeadRead}
-use Rattle.ac_wav.specs.Samples.{align_of, value_of, offset_of, data_length, sample_count, sample_in, sample_at, SamplesRead, IsUnsampled, UnsampledLeaves, FramesTaken}
-use Rattle.ac_wav.specs.Whole.{end_of, behind, EndsWithin}
+use Rattle.ac_wav.specs.Samples.{align_of, value_of, offset_of, data_length, sample_count, sample_in, SamplesRead, IsUnsampled, UnsampledLeaves, FramesTaken}
+use Rattle.ac_wav.specs.Whole.{end_of, behind}
 use Rattle.ac_wav.proofs.Whole.{read_at, read_within, read_left, unsampled_refused, unsampled_needs}
 use Rattle.ac_words.specs.declared.meaning.Options.{Options}
 use Rattle.ac_app.specs.declared.emit.Broken.{Broken}
 use Rattle.ac_app.specs.declared.frames.Read.{Read}
-use Rattle.ac_app.specs.declared.frames.Stop.{Stop}
 use Rattle.ac_app.specs.declared.frames.Stop.TheVariants as stops
 use Rattle.ac_app.specs.declared.work.Work.{Work}
-use Rattle.ac_app.specs.Frames.{RoseAt, Frames, FrameLeaves, FramesLeave, AddedFront, IsLast, IsOwn, first_row}
-use Rattle.ac_app.specs.Input.{limit, IsMono, IsBegun, IsInput, place_behind}
-use Rattle.ac_app.specs.Loop.{EndsWith, AllRead, StopLeaves}
-use Rattle.ac_app.specs.Run.{Encodes, StopsIn, Breaks}
-use Rattle.ac_app.specs.Sound.{Sound, sound_of, frame_count, frames_of}
+use Rattle.ac_app.specs.Frames.{RoseAt, Frames, FrameLeaves, FramesLeave, IsLast, IsOwn}
+use Rattle.ac_app.specs.Input.{limit, IsMono, IsBegun, place_behind}
+use Rattle.ac_app.specs.Loop.{AllRead, StopLeaves}
+use Rattle.ac_app.specs.Run.{Encodes, Breaks}
+use Rattle.ac_app.specs.Sound.{sound_of, frame_count, frames_of}
 use Rattle.ac_app.specs.World.{Told, Sinks, World}
 use Rattle.ac_app.proofs.Inputs.{no_other}
 use Rattle.ac_app.proofs.Laws.{of_each, frame_of_each}

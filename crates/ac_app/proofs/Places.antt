@@ -3,7 +3,7 @@ use Rattle.std.proofs.Common.{◌≡◌, ℕ, suc, ◌+◌, ◌-◌, ◌*◌, �
 use Rattle.std.specs.Prelude.{slice_range, if◌then◌else◌}
 use Rattle.std.proofs.lemmas.Bool.{cases_eq, cases_lt, lt-ltb, le-ltb, ne_eqb}
 use Rattle.std.proofs.lemmas.List.{append-nil, get_or_append_left, get_or-append-add, get_or-drop, get_or-take, get_or-replicate}
-use Rattle.ac_base.specs.Sigma.{Within, Lists}
+use Rattle.ac_base.specs.Sigma.{Within}
 use Rattle.ac_enc.specs.Frame.{IsFrame, joined}
 use Rattle.ac_io.specs.Outside.{Adds}
 use Rattle.ac_io.proofs.Written.{adds_both}
@@ -11,7 +11,7 @@ use Rattle.ac_enc.proofs.Places.{frame_same}
 use Rattle.ac_words.specs.declared.meaning.Options.{Options}
 use Rattle.ac_app.specs.Sound.{Sound, sound_at, frame_count}
 use Rattle.ac_app.specs.Lines.{frame_line}
-use Rattle.ac_app.specs.Stream.{places, IsFrameAt, IsStream}
+use Rattle.ac_app.specs.Stream.{places, IsStream}
 use Rattle.ac_app.specs.Frames.{Frames, Emits, IsLast, IsOwn, FrameLeaves, FramesLeave}
 use Rattle.ac_app.specs.World.{Sinks}
 use Rattle.ac_app.specs.declared.emit.Broken.{Broken}

@@ -78,5 +78,6 @@ pub fn encode<S: Source, O: Sink, N: Sink>(
     let Ok(mut work) = open(alloc) else {
         return Status::NoMemory;
     };
-    ended(frames(options, &head, &mut work, input, output, report))
+    let end = frames(options, &head, &mut work, input, output, report);
+    ended(end)
 }

@@ -168,7 +168,7 @@ fn at_input(call: usize) -> Stopped {
 fn cut_behind(bytes: usize, end: &'static str) -> Stopped {
     let frames = bytes / 3072;
     Stopped {
-        status: Status::BadWav(WavKind::Short, 44 + bytes as u64),
+        status: Status::BadWav(WavKind::Short, (bytes as u64).saturating_add(44)),
         frames,
         lines: frames,
         end,

@@ -27,12 +27,12 @@ returns-in_default-clause-told g c = λ bytes e.
 
 pub returns-clause-told : goal.returns-clause-told
 returns-clause-told g c = λ bytes e.
-    ended_leaves c.args.options c.frames.result c.ended.result bytes _ _ _ _ c.ended.ensures (c.frames.ensures.told bytes (c.in-Ok.ensures.told bytes e))
+    ended_leaves c.args.options c.frames-end.result c.ended.result bytes _ _ _ _ c.ended.ensures (c.frames-end.ensures.told bytes (c.in-Ok.ensures.told bytes e))
 
 pub returns-clause-cause : goal.returns-clause-cause
 returns-clause-cause g c = λ bytes e.
     subst (λ (s : Status). EncodeHasCause s bytes) (sym c.ended.ensures)
-    (ended_cause c.args.options c.frames.result bytes _ _ (c.frames.ensures.told bytes (c.in-Ok.ensures.told bytes e)))
+    (ended_cause c.args.options c.frames-end.result bytes _ _ (c.frames-end.ensures.told bytes (c.in-Ok.ensures.told bytes e)))
 
 pub returns-clause-most_read : goal.returns-clause-most_read
-returns-clause-most_read g c = λ bytes e. c.frames.ensures.most_read bytes (c.in-Ok.ensures.told bytes e)
+returns-clause-most_read g c = λ bytes e. c.frames-end.ensures.most_read bytes (c.in-Ok.ensures.told bytes e)

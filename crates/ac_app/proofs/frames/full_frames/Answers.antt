@@ -1,9 +1,9 @@
-use Rattle.std.proofs.Common.{◌≡◌, ◌+◌, ◌*◌, ◌<◌, ◌≤◌, ℕ, List, refl, ap, sym, subst, ◌∙◌, arith}
+use Rattle.std.proofs.Common.{◌≡◌, ◌+◌, ◌*◌, ◌≤◌, ℕ, refl, ap, subst, ◌∙◌, arith}
 use Rattle.std.proofs.lemmas.Result.{err_from_is_err_and}
 use Rattle.ac_io.specs.Within.{TakesAtMost}
 use Rattle.ac_riff.specs.declared.head.WavHead.{WavHead}
-use Rattle.ac_wav.specs.Body.{head_in, taken_by, limit_of, IsBehind}
-use Rattle.ac_wav.specs.Samples.{align_of, sample_count, SamplesRead, IsUnsampled, UnsampledLeaves, FramesTaken}
+use Rattle.ac_wav.specs.Body.{taken_by, limit_of, IsBehind}
+use Rattle.ac_wav.specs.Samples.{sample_count, SamplesRead, IsUnsampled, UnsampledLeaves, FramesTaken}
 use Rattle.ac_wav.proofs.Rooms.{align_least}
 use Rattle.ac_app.specs.Input.{limit}
 use Rattle.ac_app.specs.Sound.{sound_of}

@@ -1,4 +1,4 @@
-use Rattle.std.proofs.Common.{◌≡◌, ◌≤◌, ◌^◌}
+use Rattle.std.proofs.Common.{◌^◌}
 use Rattle.ac_base.specs.Sigma.{Within}
 use Rattle.ac_app.specs.Sound.{Sound}
 use Rattle.ac_app.specs.Frames.{Frames, IsLast, IsOwn, first_row}
