@@ -2,6 +2,8 @@
 use Rattle.std.specs.Prelude.{◌≡◌, ℕ, Bool, true, false, not, ◌&&◌, ◌||◌, List, [], ◌∷◌, ◌++◌, Option, Some, None, Result, Ok, Err, codes, if◌then◌else◌}
 use Rattle.std.specs.Str.{bytes_eq}
 use Rattle.ac_words.specs.Grammar.{Text, LastWords}
+use Rattle.ac3.specs.declared.desk.Sharing.{Sharing}
+use Rattle.ac3.specs.declared.desk.Sharing.TheVariants.{Free, OneFile, Apart}
 use Rattle.ac3.specs.declared.perform.Answers.{Answers}
 
 -- what an object of the outside tells: its bytes, or not, and how many of its calls failed
@@ -20,12 +22,12 @@ pub data Thing : Type 0 where
   output_file : Text → Thing
   report_file : Text → Thing
 
--- a thing was asked for and given, and tells this; or it was refused; or it was asked whether two are one file; or a
--- text was printed whole, or not
+-- a thing was asked for and given, and tells this; or it was refused; or it was asked how two stand to each other;
+-- or a text was printed whole, or not
 pub data Deed : Type 0 where
   given : Thing → Told → Deed
   refused : Thing → Deed
-  compared : Thing → Thing → Bool → Deed
+  compared : Thing → Thing → Sharing → Deed
   said : Text → Deed
   unsaid : Text → Deed
 
@@ -58,20 +60,22 @@ output_of name = (if is_dash name then standard_output else output_file name)
 
 -- ---- two of them that mean one file
 
--- which of the three are one file was asked, and answered so; `-` names no report
+-- how each two of the three stand to each other was asked, and answered so; `-` names no report
 abbrev pub all_compared : LastWords → Answers → List Deed
 all_compared n a = compared (input_of n.from) (output_of n.to) a.input_output ∷ (if is_dash n.report then []
     else compared (input_of n.from) (report_file n.report) a.input_report
     ∷ compared (output_of n.to) (report_file n.report) a.output_report ∷ [])
 
--- two words are the same name; `-` names no file
-abbrev pub is_one_name : Text → Text → Bool
-is_one_name a b = not (is_dash a) && bytes_eq a b
+-- two words mean one file: it was answered so, or they are the same name, and no use of it is free. `-` names no file
+abbrev pub means_one : Text → Text → Sharing → Bool
+means_one a b Free = false
+means_one a b OneFile = true
+means_one a b Apart = not (is_dash a) && bytes_eq a b
 
--- two of the three are one file: they have one name, or it was answered so
+-- two of the three mean one file
 abbrev pub is_shared : LastWords → Answers → Bool
-is_shared n a = (is_one_name n.from n.to || a.input_output)
-    || (not (is_dash n.report) && ((is_one_name n.from n.report || a.input_report) || (is_one_name n.to n.report || a.output_report)))
+is_shared n a = means_one n.from n.to a.input_output
+    || (not (is_dash n.report) && (means_one n.from n.report a.input_report || means_one n.to n.report a.output_report))
 
 -- ---- all three given, or one refused
 

@@ -26,7 +26,8 @@ code_of_end Unsaid = code_of WriteFault
 abbrev pub tellings_of : {S O N : Type 0} → (S → Option (List ℕ)) → (S → ℕ) → (O → Option (List ℕ)) → (O → ℕ)
     → (N → Option (List ℕ)) → (N → ℕ) → Things S O N → Tellings
 tellings_of left input_faults taken output_faults noted report_faults t =
-    tellings (told (left t.input) (input_faults t.input)) (told (taken t.output) (output_faults t.output)) (told_report noted report_faults t.report)
+    tellings (told (left t.input) (input_faults t.input)) (told (taken t.output) (output_faults t.output))
+    (told_report noted report_faults t.report)
 
 -- P where a run ended with this status and left these things
 abbrev pub IfRan : {S O N : Type 0} → Ended S O N → (Status → Things S O N → Type 0) → Type 0
@@ -64,7 +65,8 @@ failures t = counts t.output.faults t.report.faults
 -- the words were run, with this answer, on things that told the first tellings before and tell the second now
 pub record Leaves (ws : List Text) (status : Status) (old new : Tellings) : Type 0 where
   pub ok : (bytes : List ℕ) → old.input.bytes ≡ Some bytes → status ≡ Ok → IsDone ws bytes new.input.bytes (written old) (written new)
-  pub gives : (bytes : List ℕ) → old.input.bytes ≡ Some bytes → RunGives ws status bytes (failures old) (failures new) (written old) (written new)
+  pub gives : (bytes : List ℕ) → old.input.bytes ≡ Some bytes
+      → RunGives ws status bytes (failures old) (failures new) (written old) (written new)
   pub takes : (bytes : List ℕ) → old.input.bytes ≡ Some bytes → JobTakes ws status bytes new.input.bytes
   pub read : status ≡ ReadFault → Rose old.input.faults new.input.faults
   pub write : status ≡ WriteFault → Rose old.output.faults new.output.faults ⊎ Rose old.report.faults new.report.faults
