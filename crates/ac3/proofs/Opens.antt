@@ -3,16 +3,17 @@ use Rattle.std.proofs.Common.{◌≡◌, ◌⊎◌, ◌∷◌, ◌++◌, false, 
 use Rattle.std.specs.Prelude.{MatchResult}
 use Rattle.ac_words.specs.Grammar.{Text, LastWords}
 use Rattle.ac_words.specs.Asked.{GivesNames}
+use Rattle.ac_app.specs.World.{World}
 use Rattle.ac3.specs.declared.perform.Answers.{Answers}
 use Rattle.ac3.specs.declared.perform.Ended.{Ended}
 use Rattle.ac3.specs.declared.perform.Ended.TheVariants.{OpenFault, Unsaid}
 use Rattle.ac3.specs.Codes.{open_fault_line}
-use Rattle.ac3.specs.Deeds.{Deed, Did, said, unsaid, Tellings, all_compared, all_given, is_shared, AllGiven, Refused, Stopped, not_given}
+use Rattle.ac3.specs.Deeds.{Deed, Did, said, unsaid, all_compared, all_given, is_shared, AllGiven, Refused, Stopped, not_given}
 use Rattle.ac3.specs.Ends.{IfOpenFault, IfUnsaid, StopsAt, HasUnsaid}
 use Rattle.ac3.proofs.Deeds.{did_then}
 
 -- what is opened behind the comparisons
-pub opened : {T E : Type 0} → (n : LastWords) (a : Answers) (start mid end : Option (List Deed)) (result : Result T E) (tell : T → Tellings) → is_shared n a ≡ false → Did start mid (all_compared n a)
+pub opened : {T E : Type 0} → (n : LastWords) (a : Answers) (start mid end : Option (List Deed)) (result : Result T E) (tell : T → World) → is_shared n a ≡ false → Did start mid (all_compared n a)
     → MatchResult result (λ t. Did mid end (all_given n (tell t))) (λ _. (deeds : List Deed) × Refused n deeds × Did mid end deeds)
     → (x : List Deed) × Did start end x × MatchResult result (λ t. AllGiven n (tell t) x) (λ _. Stopped n x)
 opened n a start mid end (Ok t) tell apart c o =

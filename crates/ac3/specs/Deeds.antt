@@ -2,17 +2,10 @@
 use Rattle.std.specs.Prelude.{◌≡◌, ℕ, Bool, true, false, not, ◌&&◌, ◌||◌, List, [], ◌∷◌, ◌++◌, Option, Some, None, Result, Ok, Err, codes, if◌then◌else◌}
 use Rattle.std.specs.Str.{bytes_eq}
 use Rattle.ac_words.specs.Grammar.{Text, LastWords}
+use Rattle.ac_app.specs.World.{Told, told, World}
 use Rattle.ac3.specs.declared.desk.Sharing.{Sharing}
 use Rattle.ac3.specs.declared.desk.Sharing.TheVariants.{Free, OneFile, Apart}
 use Rattle.ac3.specs.declared.perform.Answers.{Answers}
-
--- what an object of the outside tells: its bytes, or not, and how many of its calls failed
-pub record Told : Type 0 where
-  pub bytes : Option (List ℕ)
-  pub faults : ℕ
-
-abbrev pub told : Option (List ℕ) → ℕ → Told
-told bytes faults = record { bytes = bytes; faults = faults }
 
 -- what can be asked for
 pub data Thing : Type 0 where
@@ -33,7 +26,7 @@ pub data Deed : Type 0 where
 
 -- what asking for a thing has come to
 abbrev pub asked : {A E : Type 0} → Thing → (A → Option (List ℕ)) → (A → ℕ) → Result A E → Deed
-asked thing bytes faults (Ok x) = given thing (told (bytes x) (faults x))
+asked thing bytes faults (Ok x) = given thing (told bytes faults x)
 asked thing bytes faults (Err _) = refused thing
 
 -- what printing a text has come to
@@ -79,33 +72,24 @@ is_shared n a = means_one n.from n.to a.input_output
 
 -- ---- all three given, or one refused
 
--- what the input, the output and the report tell
-pub record Tellings : Type 0 where
-  pub input : Told
-  pub output : Told
-  pub report : Told
-
-abbrev pub tellings : Told → Told → Told → Tellings
-tellings input output report = record { input = input; output = output; report = report }
-
 -- a report that is nowhere tells nothing
 abbrev pub told_report : {N : Type 0} → (N → Option (List ℕ)) → (N → ℕ) → Option N → Told
-told_report held faults None = told None 0
-told_report held faults (Some report) = told (held report) (faults report)
+told_report held faults None = record { bytes = None; faults = 0 }
+told_report held faults (Some report) = told held faults report
 
 -- `-` names no report
 abbrev pub report_given : Text → Told → List Deed
 report_given name t = (if is_dash name then [] else given (report_file name) t ∷ [])
 
 -- the input, the output and the report were asked for and given, in this order
-abbrev pub all_given : LastWords → Tellings → List Deed
-all_given n t = given (input_of n.from) t.input ∷ given (output_of n.to) t.output ∷ report_given n.report t.report
+abbrev pub all_given : LastWords → World → List Deed
+all_given n w = given (input_of n.from) w.input ∷ given (output_of n.to) w.sinks.output ∷ report_given n.report w.sinks.report
 
 -- they were compared, no two are one file, and the three were asked for and given
-pub record AllGiven (n : LastWords) (t : Tellings) (deeds : List Deed) : Type 0 where
+pub record AllGiven (n : LastWords) (w : World) (deeds : List Deed) : Type 0 where
   pub answers : Answers
   pub apart : is_shared n answers ≡ false
-  pub same : deeds ≡ all_compared n answers ++ all_given n t
+  pub same : deeds ≡ all_compared n answers ++ all_given n w
 
 -- one of the three was refused, and nothing behind it asked for
 pub data Refused (n : LastWords) : List Deed → Type 0 where

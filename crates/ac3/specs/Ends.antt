@@ -1,16 +1,17 @@
 -- What the program does, by how it ends.
-use Rattle.std.specs.Prelude.{◌≡◌, ◌⊎◌, ℕ, List, [], ◌∷◌, ◌++◌, Option, Some}
-use Rattle.ac_io.specs.Outside.{Rose}
+use Rattle.std.specs.Prelude.{◌≡◌, ◌⊎◌, ℕ, ◌+◌, List, [], ◌∷◌, ◌++◌, Option, Some}
+use Rattle.ac_io.specs.Within.{TakesAtMost}
 use Rattle.ac_words.specs.Grammar.{Text, LastWords, InGrammar}
 use Rattle.ac_words.specs.Asked.{GivesNames}
 use Rattle.ac_words.specs.declared.fault.WordsFault.{WordsFault}
+use Rattle.ac_app.specs.Input.{limit}
 use Rattle.ac_app.specs.Lines.{code_of, status_line}
-use Rattle.ac_app.specs.Run.{Counts, counts, JobTakes, RunGives, IsDone}
-use Rattle.ac_app.specs.World.{Held, held}
+use Rattle.ac_app.specs.Run.{RoseFor, HasCause, RunLeaves, IsDone}
+use Rattle.ac_app.specs.World.{told, World, NeverFalls}
 use Rattle.ac_app.specs.declared.status.Status.{Status}
-use Rattle.ac_app.specs.declared.status.Status.TheVariants.{Ok, Usage, ReadFault, WriteFault}
+use Rattle.ac_app.specs.declared.status.Status.TheVariants.{Ok, Usage, WriteFault}
 use Rattle.ac3.specs.Codes.{open_fault, open_fault_line, status_of_words}
-use Rattle.ac3.specs.Deeds.{Deed, unsaid, Did, told, told_report, Tellings, tellings, AllGiven, Stopped}
+use Rattle.ac3.specs.Deeds.{Deed, unsaid, Did, told_report, AllGiven, Stopped}
 use Rattle.ac3.specs.declared.perform.Things.{Things}
 use Rattle.ac3.specs.declared.perform.Ended.{Ended}
 use Rattle.ac3.specs.declared.perform.Ended.TheVariants.{Ran, OpenFault, NoWords, Unsaid}
@@ -23,11 +24,12 @@ code_of_end (NoWords fault) = code_of (status_of_words fault)
 code_of_end Unsaid = code_of WriteFault
 
 -- what the three things tell, each by what its trait tells of it
-abbrev pub tellings_of : {S O N : Type 0} → (S → Option (List ℕ)) → (S → ℕ) → (O → Option (List ℕ)) → (O → ℕ)
-    → (N → Option (List ℕ)) → (N → ℕ) → Things S O N → Tellings
-tellings_of left input_faults taken output_faults noted report_faults t =
-    tellings (told (left t.input) (input_faults t.input)) (told (taken t.output) (output_faults t.output))
-    (told_report noted report_faults t.report)
+abbrev pub world_of : {S O N : Type 0} → (S → Option (List ℕ)) → (S → ℕ) → (O → Option (List ℕ)) → (O → ℕ)
+    → (N → Option (List ℕ)) → (N → ℕ) → Things S O N → World
+world_of left input_faults taken output_faults noted report_faults t = record {
+  input = told left input_faults t.input;
+  sinks = record { output = told taken output_faults t.output; report = told_report noted report_faults t.report };
+}
 
 -- P where a run ended with this status and left these things
 abbrev pub IfRan : {S O N : Type 0} → Ended S O N → (Status → Things S O N → Type 0) → Type 0
@@ -54,30 +56,22 @@ IfUnsaid OpenFault P = Unit {0}
 IfUnsaid (NoWords _) P = Unit {0}
 IfUnsaid Unsaid P = P
 
--- what the output and the report have taken
-abbrev pub written : Tellings → Held
-written t = held t.output.bytes t.report.bytes
-
--- how many of their calls failed
-abbrev pub failures : Tellings → Counts
-failures t = counts t.output.faults t.report.faults
-
--- the words were run, with this answer, on things that told the first tellings before and tell the second now
-pub record Leaves (ws : List Text) (status : Status) (old new : Tellings) : Type 0 where
-  pub ok : (bytes : List ℕ) → old.input.bytes ≡ Some bytes → status ≡ Ok → IsDone ws bytes new.input.bytes (written old) (written new)
-  pub gives : (bytes : List ℕ) → old.input.bytes ≡ Some bytes
-      → RunGives ws status bytes (failures old) (failures new) (written old) (written new)
-  pub takes : (bytes : List ℕ) → old.input.bytes ≡ Some bytes → JobTakes ws status bytes new.input.bytes
-  pub read : status ≡ ReadFault → Rose old.input.faults new.input.faults
-  pub write : status ≡ WriteFault → Rose old.output.faults new.output.faults ⊎ Rose old.report.faults new.report.faults
+-- the words were run, with this answer, on things that told the first before and tell the second now
+pub record Leaves (ws : List Text) (status : Status) (old new : World) : Type 0 where
+  pub told : (bytes : List ℕ) → old.input.bytes ≡ Some bytes → RunLeaves ws status bytes old new
+  pub ok : (bytes : List ℕ) → old.input.bytes ≡ Some bytes → status ≡ Ok → IsDone ws bytes old new
+  pub cause : (bytes : List ℕ) → old.input.bytes ≡ Some bytes → HasCause ws status bytes
+  pub most_read : (bytes : List ℕ) → old.input.bytes ≡ Some bytes → TakesAtMost bytes (limit + 1) new.input.bytes
+  pub rose : RoseFor status old new
+  pub never_falls : NeverFalls old new
 
 -- ---- the four ends
 
 -- the words name three things, no two of which are one file; they were asked for and given in order, and the words were run on them
-pub record RunsOn (ws : List Text) (status : Status) (old new : Option (List Deed)) (now : Tellings) : Type 0 where
+pub record RunsOn (ws : List Text) (status : Status) (old new : Option (List Deed)) (now : World) : Type 0 where
   pub names : LastWords
   pub named : GivesNames ws names
-  pub before : Tellings
+  pub before : World
   pub deeds : List Deed
   pub all : AllGiven names before deeds
   pub did : Did old new deeds

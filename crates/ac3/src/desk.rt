@@ -1,5 +1,6 @@
 ghost use Rattle.std.specs.Prelude.{[], ◌∷◌, List, Option};
-ghost use Rattle.ac3.specs.Deeds.{Deed, Did, asked, given, compared, printed, told, standard_input, file_to_read, standard_output, output_file, report_file, input_of, output_of};
+ghost use Rattle.ac_app.specs.World.{told};
+ghost use Rattle.ac3.specs.Deeds.{Deed, Did, asked, given, compared, printed, standard_input, file_to_read, standard_output, output_file, report_file, input_of, output_of};
 
 use ac_app::{Failed, Sink, Source};
 
@@ -44,7 +45,7 @@ pub trait Desk {
     /// Standard input.
     fn standard_input(&mut self) -> Self::Input
         ensures { Did (done self.old) (done self.new)
-            (given standard_input (told (Self.Input.left result) (Self.Input.faults result)) ∷ []) };
+            (given standard_input (told Self.Input.left Self.Input.faults result) ∷ []) };
 
     /// Opens a file that is there.
     ///
@@ -58,7 +59,7 @@ pub trait Desk {
     /// Standard output.
     fn standard_output(&mut self) -> Self::Output
         ensures { Did (done self.old) (done self.new)
-            (given standard_output (told (Self.Output.held result) (Self.Output.faults result)) ∷ []) };
+            (given standard_output (told Self.Output.held Self.Output.faults result) ∷ []) };
 
     /// Creates the output's file, or empties it.
     ///

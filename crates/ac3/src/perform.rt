@@ -5,8 +5,8 @@ ghost use Rattle.ac_words.specs.declared.fault.WordsFault.TheVariants.{Usage};
 ghost use Rattle.ac_app.specs.Lines.{status_line};
 ghost use Rattle.ac_app.specs.declared.status.Status.TheVariants as statuses;
 ghost use Rattle.ac3.specs.Codes.{open_fault_line, status_of_words};
-ghost use Rattle.ac3.specs.Deeds.{Deed, Did, asked, said, unsaid, refused, report_file, told, told_report, tellings, is_dash, input_of, output_of, report_given, all_given, all_compared, means_one as is_one_of, is_shared as is_shared_by, AllGiven, Refused, Stopped};
-ghost use Rattle.ac3.specs.Ends.{code_of_end, IfRan, IfOpenFault, IfNoWords, IfUnsaid, Leaves, tellings_of, RunsOn, StopsAt, IsOutside, HasUnsaid};
+ghost use Rattle.ac3.specs.Deeds.{Deed, Did, asked, said, unsaid, refused, report_file, told_report, is_dash, input_of, output_of, report_given, all_given, all_compared, means_one as is_one_of, is_shared as is_shared_by, AllGiven, Refused, Stopped};
+ghost use Rattle.ac3.specs.Ends.{code_of_end, IfRan, IfOpenFault, IfNoWords, IfUnsaid, Leaves, world_of, RunsOn, StopsAt, IsOutside, HasUnsaid};
 
 use crate::desk::{Desk, Sharing};
 use ac_app::{Failed, Names, NullSink, Sink, Source, Status, WordsFault, names, run};
@@ -107,7 +107,7 @@ fn open_all<D: Desk>(
 ) -> Result<Things<D::Input, D::Output, D::Report>, Failed>
     ensures { MatchResult result
         (λ t. Did (D.done desk.old) (D.done desk.new) (all_given (texts_of named.entry)
-        (tellings_of D.Input.left D.Input.faults D.Output.held D.Output.faults D.Report.held D.Report.faults t)))
+        (world_of D.Input.left D.Input.faults D.Output.held D.Output.faults D.Report.held D.Report.faults t)))
         (λ _. (deeds : List Deed) × Refused (texts_of named.entry) deeds × Did (D.done desk.old) (D.done desk.new) deeds) }
 {
     let Ok(input) = open_input(desk, named.from) else {
@@ -177,7 +177,7 @@ fn open_apart<D: Desk>(
 ) -> Result<Things<D::Input, D::Output, D::Report>, Failed>
     ensures { (deeds : List Deed) × Did (D.done desk.old) (D.done desk.new) deeds × MatchResult result
         (λ t. AllGiven (texts_of named.entry)
-        (tellings_of D.Input.left D.Input.faults D.Output.held D.Output.faults D.Report.held D.Report.faults t) deeds)
+        (world_of D.Input.left D.Input.faults D.Output.held D.Output.faults D.Report.held D.Report.faults t) deeds)
         (λ _. Stopped (texts_of named.entry) deeds) }
 {
     let answers = compare(desk, named);
@@ -194,8 +194,8 @@ fn work<S: Source, O: Sink, N: Sink>(
     things: &mut Things<S, O, N>,
 ) -> Status
     ensures { Leaves (map string_bytes words.now) result
-        (tellings_of S.left S.faults O.held O.faults N.held N.faults things.old)
-        (tellings_of S.left S.faults O.held O.faults N.held N.faults things.new) }
+        (world_of S.left S.faults O.held O.faults N.held N.faults things.old)
+        (world_of S.left S.faults O.held O.faults N.held N.faults things.new) }
 {
     let Things {
         input,
@@ -245,7 +245,7 @@ pub fn perform<D: Desk>(
     desk: &mut D,
 ) -> Ended<D::Input, D::Output, D::Report>
     ensures ran { IfRan result (λ status t. RunsOn (map string_bytes words.now) status (D.done desk.old) (D.done desk.new)
-        (tellings_of D.Input.left D.Input.faults D.Output.held D.Output.faults D.Report.held D.Report.faults t)) }
+        (world_of D.Input.left D.Input.faults D.Output.held D.Output.faults D.Report.held D.Report.faults t)) }
     ensures stopped { IfOpenFault result
         (StopsAt (map string_bytes words.now) (said open_fault_line) (D.done desk.old) (D.done desk.new)) }
     ensures no_words { IfNoWords result (λ fault. (fault ≡ Usage)
