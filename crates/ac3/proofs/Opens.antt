@@ -3,11 +3,11 @@ use Rattle.std.proofs.Common.{◌≡◌, ◌⊎◌, ◌∷◌, ◌++◌, false, 
 use Rattle.std.specs.Prelude.{MatchResult}
 use Rattle.ac_words.specs.Grammar.{Text, LastWords}
 use Rattle.ac_words.specs.Asked.{GivesNames}
+use Rattle.ac_app.specs.World.{World}
 use Rattle.ac3.specs.declared.perform.Answers.{Answers}
 use Rattle.ac3.specs.declared.perform.Ended.{Ended}
 use Rattle.ac3.specs.declared.perform.Ended.TheVariants.{OpenFault, Unsaid}
 use Rattle.ac3.specs.Codes.{open_fault_line}
-use Rattle.ac_app.specs.World.{World}
 use Rattle.ac3.specs.Deeds.{Deed, Did, said, unsaid, all_compared, all_given, is_shared, AllGiven, Refused, Stopped, not_given}
 use Rattle.ac3.specs.Ends.{IfOpenFault, IfUnsaid, StopsAt, HasUnsaid}
 use Rattle.ac3.proofs.Deeds.{did_then}

@@ -4,14 +4,14 @@ use Rattle.ac_io.specs.Within.{TakesAtMost}
 use Rattle.ac_words.specs.Grammar.{Text, LastWords, InGrammar}
 use Rattle.ac_words.specs.Asked.{GivesNames}
 use Rattle.ac_words.specs.declared.fault.WordsFault.{WordsFault}
-use Rattle.ac_app.specs.Lines.{code_of, status_line}
 use Rattle.ac_app.specs.Input.{limit}
+use Rattle.ac_app.specs.Lines.{code_of, status_line}
 use Rattle.ac_app.specs.Run.{RoseFor, HasCause, RunLeaves, IsDone}
-use Rattle.ac_app.specs.World.{World, NeverFalls}
+use Rattle.ac_app.specs.World.{told, World, NeverFalls}
 use Rattle.ac_app.specs.declared.status.Status.{Status}
 use Rattle.ac_app.specs.declared.status.Status.TheVariants.{Ok, Usage, WriteFault}
 use Rattle.ac3.specs.Codes.{open_fault, open_fault_line, status_of_words}
-use Rattle.ac3.specs.Deeds.{Deed, unsaid, Did, told, told_report, tellings, AllGiven, Stopped}
+use Rattle.ac3.specs.Deeds.{Deed, unsaid, Did, told_report, AllGiven, Stopped}
 use Rattle.ac3.specs.declared.perform.Things.{Things}
 use Rattle.ac3.specs.declared.perform.Ended.{Ended}
 use Rattle.ac3.specs.declared.perform.Ended.TheVariants.{Ran, OpenFault, NoWords, Unsaid}
@@ -24,10 +24,12 @@ code_of_end (NoWords fault) = code_of (status_of_words fault)
 code_of_end Unsaid = code_of WriteFault
 
 -- what the three things tell, each by what its trait tells of it
-abbrev pub tellings_of : {S O N : Type 0} → (S → Option (List ℕ)) → (S → ℕ) → (O → Option (List ℕ)) → (O → ℕ)
+abbrev pub world_of : {S O N : Type 0} → (S → Option (List ℕ)) → (S → ℕ) → (O → Option (List ℕ)) → (O → ℕ)
     → (N → Option (List ℕ)) → (N → ℕ) → Things S O N → World
-tellings_of left input_faults taken output_faults noted report_faults t =
-    tellings (told (left t.input) (input_faults t.input)) (told (taken t.output) (output_faults t.output)) (told_report noted report_faults t.report)
+world_of left input_faults taken output_faults noted report_faults t = record {
+  input = told left input_faults t.input;
+  sinks = record { output = told taken output_faults t.output; report = told_report noted report_faults t.report };
+}
 
 -- P where a run ended with this status and left these things
 abbrev pub IfRan : {S O N : Type 0} → Ended S O N → (Status → Things S O N → Type 0) → Type 0

@@ -1,7 +1,19 @@
 ghost use Rattle.std.specs.Prelude.{[], ◌∷◌, List, Option};
-ghost use Rattle.ac3.specs.Deeds.{Deed, Did, asked, given, compared, printed, told, standard_input, file_to_read, standard_output, output_file, report_file, input_of, output_of};
+ghost use Rattle.ac_app.specs.World.{told};
+ghost use Rattle.ac3.specs.Deeds.{Deed, Did, asked, given, compared, printed, standard_input, file_to_read, standard_output, output_file, report_file, input_of, output_of};
 
 use ac_app::{Failed, Sink, Source};
+
+/// How two things stand to each other, as far as the system tells.
+#[derive(Clone, Copy, Debug, PartialEq, Eq)]
+pub enum Sharing {
+    /// One of them is a terminal, a pipe or a device such as the null device, which any number may use at once.
+    Free,
+    /// They are one file.
+    OneFile,
+    /// They aren't known to be one file.
+    Apart,
+}
 
 /// Where the program asks for what it reads and writes, and prints its own lines. It creates and empties nothing
 /// that it isn't asked to.
@@ -18,23 +30,22 @@ pub trait Desk {
     /// What was asked for and printed so far, where it is told. A desk may cease to tell.
     ghost done: { Self → Option (List Deed) };
 
-    /// Whether the input and the output of these names are one file; `-` stands for the standard streams. Terminals,
-    /// pipes and devices such as the null device are no files.
-    fn input_is_output(&mut self, from: &str, to: &str) -> bool
+    /// How the input and the output of these names stand to each other; `-` stands for the standard streams.
+    fn input_output(&mut self, from: &str, to: &str) -> Sharing
         ensures { Did (done self.old) (done self.new) (compared (input_of from.now) (output_of to.now) result ∷ []) };
 
-    /// Whether the input of this name and the report's file are one file.
-    fn input_is_report(&mut self, from: &str, report: &str) -> bool
+    /// How the input of this name and the report's file stand to each other.
+    fn input_report(&mut self, from: &str, report: &str) -> Sharing
         ensures { Did (done self.old) (done self.new) (compared (input_of from.now) (report_file report.now) result ∷ []) };
 
-    /// Whether the output of this name and the report's file are one file.
-    fn output_is_report(&mut self, to: &str, report: &str) -> bool
+    /// How the output of this name and the report's file stand to each other.
+    fn output_report(&mut self, to: &str, report: &str) -> Sharing
         ensures { Did (done self.old) (done self.new) (compared (output_of to.now) (report_file report.now) result ∷ []) };
 
     /// Standard input.
     fn standard_input(&mut self) -> Self::Input
         ensures { Did (done self.old) (done self.new)
-            (given standard_input (told (Self.Input.left result) (Self.Input.faults result)) ∷ []) };
+            (given standard_input (told Self.Input.left Self.Input.faults result) ∷ []) };
 
     /// Opens a file that is there.
     ///
@@ -48,7 +59,7 @@ pub trait Desk {
     /// Standard output.
     fn standard_output(&mut self) -> Self::Output
         ensures { Did (done self.old) (done self.new)
-            (given standard_output (told (Self.Output.held result) (Self.Output.faults result)) ∷ []) };
+            (given standard_output (told Self.Output.held Self.Output.faults result) ∷ []) };
 
     /// Creates the output's file, or empties it.
     ///

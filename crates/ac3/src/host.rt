@@ -1,8 +1,8 @@
 //! The desk of the system: the one place where a file is opened by its name.
 ghost use Rattle.std.specs.Prelude.{None};
 
-use crate::desk::Desk;
-use crate::same::is_one_file;
+use crate::desk::{Desk, Sharing};
+use crate::same::sharing;
 use ac_app::{Failed, Sink, StdSink, StdSource};
 use either::{Either, Left, Right};
 use std::fs::File;
@@ -40,16 +40,16 @@ impl Desk for HostDesk<'_> {
 
     ghost done = { λ _. None };
 
-    fn input_is_output(&mut self, from: &str, to: &str) -> bool {
-        is_one_file(self.rt, input_path(from), output_path(to))
+    fn input_output(&mut self, from: &str, to: &str) -> Sharing {
+        sharing(self.rt, input_path(from), output_path(to))
     }
 
-    fn input_is_report(&mut self, from: &str, report: &str) -> bool {
-        is_one_file(self.rt, input_path(from), report)
+    fn input_report(&mut self, from: &str, report: &str) -> Sharing {
+        sharing(self.rt, input_path(from), report)
     }
 
-    fn output_is_report(&mut self, to: &str, report: &str) -> bool {
-        is_one_file(self.rt, output_path(to), report)
+    fn output_report(&mut self, to: &str, report: &str) -> Sharing {
+        sharing(self.rt, output_path(to), report)
     }
 
     fn standard_input(&mut self) -> Self::Input {

@@ -5,10 +5,10 @@ ghost use Rattle.ac_words.specs.declared.fault.WordsFault.TheVariants.{Usage};
 ghost use Rattle.ac_app.specs.Lines.{status_line};
 ghost use Rattle.ac_app.specs.declared.status.Status.TheVariants as statuses;
 ghost use Rattle.ac3.specs.Codes.{open_fault_line, status_of_words};
-ghost use Rattle.ac3.specs.Deeds.{Deed, Did, asked, said, unsaid, refused, report_file, told, told_report, tellings, is_dash, input_of, output_of, report_given, all_given, all_compared, is_one_name as is_one_name_text, is_shared as is_shared_by, AllGiven, Refused, Stopped};
-ghost use Rattle.ac3.specs.Ends.{code_of_end, IfRan, IfOpenFault, IfNoWords, IfUnsaid, Leaves, tellings_of, RunsOn, StopsAt, IsOutside, HasUnsaid};
+ghost use Rattle.ac3.specs.Deeds.{Deed, Did, asked, said, unsaid, refused, report_file, told_report, is_dash, input_of, output_of, report_given, all_given, all_compared, means_one as is_one_of, is_shared as is_shared_by, AllGiven, Refused, Stopped};
+ghost use Rattle.ac3.specs.Ends.{code_of_end, IfRan, IfOpenFault, IfNoWords, IfUnsaid, Leaves, world_of, RunsOn, StopsAt, IsOutside, HasUnsaid};
 
-use crate::desk::Desk;
+use crate::desk::{Desk, Sharing};
 use ac_app::{Failed, Names, NullSink, Sink, Source, Status, WordsFault, names, run};
 use std::alloc::Global;
 
@@ -23,15 +23,15 @@ pub struct Things<S, O, N> {
     pub report: Option<N>,
 }
 
-/// Which of the three are one file, as the desk says.
+/// How each two of the three stand to each other, as the desk says.
 #[derive(Clone, Copy)]
 pub struct Answers {
     /// The input and the output.
-    pub input_output: bool,
+    pub input_output: Sharing,
     /// The input and the report.
-    pub input_report: bool,
+    pub input_report: Sharing,
     /// The output and the report.
-    pub output_report: bool,
+    pub output_report: Sharing,
 }
 
 /// How the program ended.
@@ -107,7 +107,7 @@ fn open_all<D: Desk>(
 ) -> Result<Things<D::Input, D::Output, D::Report>, Failed>
     ensures { MatchResult result
         (λ t. Did (D.done desk.old) (D.done desk.new) (all_given (texts_of named.entry)
-        (tellings_of D.Input.left D.Input.faults D.Output.held D.Output.faults D.Report.held D.Report.faults t)))
+        (world_of D.Input.left D.Input.faults D.Output.held D.Output.faults D.Report.held D.Report.faults t)))
         (λ _. (deeds : List Deed) × Refused (texts_of named.entry) deeds × Did (D.done desk.old) (D.done desk.new) deeds) }
 {
     let Ok(input) = open_input(desk, named.from) else {
@@ -126,28 +126,33 @@ fn open_all<D: Desk>(
     })
 }
 
-/// Whether two words are the same name. `-` names no file.
-fn is_one_name(one: &str, other: &str) -> bool
-    ensures { result ≡ is_one_name_text one.now other.now }
+/// Whether two words mean one file: as the desk says, or where they are the same name and no use of it is free. `-`
+/// names no file.
+fn means_one(one: &str, other: &str, sharing: Sharing) -> bool
+    ensures { result ≡ is_one_of one.now other.now sharing }
 {
-    one != "-" && one == other
+    match sharing {
+        Sharing::Free => false,
+        Sharing::OneFile => true,
+        Sharing::Apart => one != "-" && one == other,
+    }
 }
 
-/// Asks the desk which of the three are one file.
+/// Asks the desk how each two of the three stand to each other.
 #[tactic(auto, using(crate::proofs::Deeds::did_then))]
 fn compare<D: Desk>(desk: &mut D, named: Names<'_>) -> Answers
     ensures { Did (D.done desk.old) (D.done desk.new) (all_compared (texts_of named.entry) result) }
 {
-    let input_output = desk.input_is_output(named.from, named.to);
+    let input_output = desk.input_output(named.from, named.to);
     if named.report == "-" {
         return Answers {
             input_output,
-            input_report: false,
-            output_report: false,
+            input_report: Sharing::Apart,
+            output_report: Sharing::Apart,
         };
     }
-    let input_report = desk.input_is_report(named.from, named.report);
-    let output_report = desk.output_is_report(named.to, named.report);
+    let input_report = desk.input_report(named.from, named.report);
+    let output_report = desk.output_report(named.to, named.report);
     Answers {
         input_output,
         input_report,
@@ -159,9 +164,9 @@ fn compare<D: Desk>(desk: &mut D, named: Names<'_>) -> Answers
 fn is_shared(named: Names<'_>, answers: Answers) -> bool
     ensures { result ≡ is_shared_by (texts_of named.entry) answers }
 {
-    let read = is_one_name(named.from, named.to) || answers.input_output;
-    let reported = is_one_name(named.from, named.report) || answers.input_report;
-    let written = is_one_name(named.to, named.report) || answers.output_report;
+    let read = means_one(named.from, named.to, answers.input_output);
+    let reported = means_one(named.from, named.report, answers.input_report);
+    let written = means_one(named.to, named.report, answers.output_report);
     read || (named.report != "-" && (reported || written))
 }
 
@@ -172,7 +177,7 @@ fn open_apart<D: Desk>(
 ) -> Result<Things<D::Input, D::Output, D::Report>, Failed>
     ensures { (deeds : List Deed) × Did (D.done desk.old) (D.done desk.new) deeds × MatchResult result
         (λ t. AllGiven (texts_of named.entry)
-        (tellings_of D.Input.left D.Input.faults D.Output.held D.Output.faults D.Report.held D.Report.faults t) deeds)
+        (world_of D.Input.left D.Input.faults D.Output.held D.Output.faults D.Report.held D.Report.faults t) deeds)
         (λ _. Stopped (texts_of named.entry) deeds) }
 {
     let answers = compare(desk, named);
@@ -189,8 +194,8 @@ fn work<S: Source, O: Sink, N: Sink>(
     things: &mut Things<S, O, N>,
 ) -> Status
     ensures { Leaves (map string_bytes words.now) result
-        (tellings_of S.left S.faults O.held O.faults N.held N.faults things.old)
-        (tellings_of S.left S.faults O.held O.faults N.held N.faults things.new) }
+        (world_of S.left S.faults O.held O.faults N.held N.faults things.old)
+        (world_of S.left S.faults O.held O.faults N.held N.faults things.new) }
 {
     let Things {
         input,
@@ -240,7 +245,7 @@ pub fn perform<D: Desk>(
     desk: &mut D,
 ) -> Ended<D::Input, D::Output, D::Report>
     ensures ran { IfRan result (λ status t. RunsOn (map string_bytes words.now) status (D.done desk.old) (D.done desk.new)
-        (tellings_of D.Input.left D.Input.faults D.Output.held D.Output.faults D.Report.held D.Report.faults t)) }
+        (world_of D.Input.left D.Input.faults D.Output.held D.Output.faults D.Report.held D.Report.faults t)) }
     ensures stopped { IfOpenFault result
         (StopsAt (map string_bytes words.now) (said open_fault_line) (D.done desk.old) (D.done desk.new)) }
     ensures no_words { IfNoWords result (λ fault. (fault ≡ Usage)

@@ -1,4 +1,5 @@
 //! Which file a path means.
+use crate::desk::Sharing;
 use std::fs::{self, Metadata};
 use std::os::unix::fs::{FileTypeExt, MetadataExt};
 use std::path::{Path, PathBuf};
@@ -7,24 +8,17 @@ use std::rt::HostRuntime;
 /// The most links that are followed to a file that isn't there yet.
 const LINKS: u32 = 40;
 
-/// What tells a file from all others, as far as the system says.
+/// What the system says of a path.
 #[derive(Drop)]
-struct Mark {
-    device: u64,
-    number: u64,
-    /// The last part of its path, where the file isn't there yet and the others are those of its folder.
-    new: Option<PathBuf>,
-}
-
-impl Mark {
-    fn is_of(&self, other: &Mark) -> bool {
-        let names_agree = match (&self.new, &other.new) {
-            (None, None) => true,
-            (Some(one), Some(two)) => one.as_path().file_name() == two.as_path().file_name(),
-            _ => false,
-        };
-        self.device == other.device && self.number == other.number && names_agree
-    }
+enum Found {
+    /// A terminal, a pipe, a socket or a device such as the null device.
+    Stream,
+    /// A file that is there: its device, and its number there.
+    File(u64, u64),
+    /// A file that isn't there yet: its folder's device and number, and a path that ends in its name.
+    New(u64, u64, PathBuf),
+    /// Nothing.
+    Unknown,
 }
 
 /// Whether any number of programs may read and write it at once: a terminal, the null device, a pipe, a socket.
@@ -55,34 +49,41 @@ fn followed(rt: &HostRuntime, path: &str) -> Option<PathBuf> {
     None
 }
 
-/// The mark of a file that isn't there yet.
-fn new_mark_of(rt: &HostRuntime, path: &str) -> Option<Mark> {
-    let new = followed(rt, path)?;
-    let folder = fs::metadata(rt, folder_of(new.as_path()).as_str()).ok()?;
-    Some(Mark {
-        device: folder.dev(),
-        number: folder.ino(),
-        new: Some(new),
-    })
-}
-
-/// The mark of the file of a path; none where it can't be told, and where any number may use it at once.
-fn mark_of(rt: &HostRuntime, path: &str) -> Option<Mark> {
-    match fs::metadata(rt, path) {
-        Ok(found) if is_free(&found) => None,
-        Ok(found) => Some(Mark {
-            device: found.dev(),
-            number: found.ino(),
-            new: None,
-        }),
-        Err(_) => new_mark_of(rt, path),
+/// What is found where no file is there yet.
+fn new_at(rt: &HostRuntime, path: &str) -> Found {
+    let Some(new) = followed(rt, path) else {
+        return Found::Unknown;
+    };
+    match fs::metadata(rt, folder_of(new.as_path()).as_str()) {
+        Ok(folder) => Found::New(folder.dev(), folder.ino(), new),
+        Err(_) => Found::Unknown,
     }
 }
 
-/// Whether two paths mean one file, as far as the system tells: by links, or by another way through the folders.
-pub fn is_one_file(rt: &HostRuntime, one: &str, other: &str) -> bool {
-    match (mark_of(rt, one), mark_of(rt, other)) {
-        (Some(first), Some(second)) => first.is_of(&second),
+fn found_at(rt: &HostRuntime, path: &str) -> Found {
+    match fs::metadata(rt, path) {
+        Ok(found) if is_free(&found) => Found::Stream,
+        Ok(found) => Found::File(found.dev(), found.ino()),
+        Err(_) => new_at(rt, path),
+    }
+}
+
+/// How the things at two paths stand to each other: links are followed, and so are other ways through the folders.
+pub fn sharing(rt: &HostRuntime, one: &str, other: &str) -> Sharing {
+    let is_one = match (found_at(rt, one), found_at(rt, other)) {
+        (Found::Stream, _) | (_, Found::Stream) => return Sharing::Free,
+        (Found::File(device, number), Found::File(there, that)) => {
+            device == there && number == that
+        }
+        (Found::New(device, number, first), Found::New(there, that, second)) => {
+            let same_name = first.as_path().file_name() == second.as_path().file_name();
+            device == there && number == that && same_name
+        }
         _ => false,
+    };
+    if is_one {
+        Sharing::OneFile
+    } else {
+        Sharing::Apart
     }
 }

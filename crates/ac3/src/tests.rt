@@ -1,7 +1,7 @@
 //! The program over a desk in memory, which notes what it is asked for.
 ghost use Rattle.std.specs.Prelude.{None};
 
-use crate::desk::Desk;
+use crate::desk::{Desk, Sharing};
 use crate::perform::{Ended, perform};
 use ac_app::{Failed, MemSink, MemSource, Status};
 use std::alloc::{AllocError, Global};
@@ -33,10 +33,16 @@ impl Notes {
         }
     }
 
-    fn compare(&mut self, one: &str, other: &str) -> bool {
+    fn compare(&mut self, one: &str, other: &str) -> Sharing {
         self.note(one, "");
         self.note("is ", other);
-        self.one_file == (one, other)
+        if one == "null" {
+            Sharing::Free
+        } else if self.one_file == (one, other) {
+            Sharing::OneFile
+        } else {
+            Sharing::Apart
+        }
     }
 
     fn wav(&mut self) -> MemSource {
@@ -73,15 +79,15 @@ impl Desk for Notes {
 
     ghost done = { λ _. None };
 
-    fn input_is_output(&mut self, from: &str, to: &str) -> bool {
+    fn input_output(&mut self, from: &str, to: &str) -> Sharing {
         self.compare(from, to)
     }
 
-    fn input_is_report(&mut self, from: &str, report: &str) -> bool {
+    fn input_report(&mut self, from: &str, report: &str) -> Sharing {
         self.compare(from, report)
     }
 
-    fn output_is_report(&mut self, to: &str, report: &str) -> bool {
+    fn output_report(&mut self, to: &str, report: &str) -> Sharing {
         self.compare(to, report)
     }
 
@@ -255,6 +261,13 @@ fn two_names_of_one_file_open_nothing(rt: HostRuntime) -> Result<(), Fail> {
     assert!(rt; does(&rt, plain(["a", "b", "a"]), 8, noted)?);
     let noted = "a;is b;a;is b;b;is b;say status 8 open fault\n;";
     assert!(rt; does(&rt, plain(["a", "b", "b"]), 8, noted)?);
+    Ok(())
+}
+
+#[test]
+fn a_stream_may_be_named_twice(rt: HostRuntime) -> Result<(), Fail> {
+    let noted = "a;is null;a;is null;null;is null;open a;output null;report null;";
+    assert!(rt; does(&rt, plain(["a", "null", "null"]), 0, noted)?);
     Ok(())
 }
 

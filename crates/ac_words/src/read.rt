@@ -133,10 +133,10 @@ fn asked_by<'a>(words: &'a [String]) -> Option<Asked<'a>>
 /// `Usage` exactly where the words are not in the grammar. They are read without memory, so that `NoMemory`
 /// never comes.
 pub fn names<'a>(alloc: Global, words: &'a [String]) -> Result<Names<'a>, WordsFault>
-    ensures ok { IfOk result (λ n. GivesNames (map string_bytes words.entry.now) (texts_of n)) }
-    ensures usage { result ≡ Err Usage → ¬ InGrammar (map string_bytes words.entry.now) }
-    ensures outside { ¬ InGrammar (map string_bytes words.entry.now) → result ≡ Err Usage }
-    ensures inside { InGrammar (map string_bytes words.entry.now) → IsOk result }
+    ensures value { IfOk result (λ n. GivesNames (map string_bytes words.entry.now) (texts_of n)) }
+    ensures cause { result ≡ Err Usage → ¬ InGrammar (map string_bytes words.entry.now) }
+    ensures refused { ¬ InGrammar (map string_bytes words.entry.now) → result ≡ Err Usage }
+    ensures complete { InGrammar (map string_bytes words.entry.now) → IsOk result }
     ensures memory { result ≢ Err NoMemory }
 {
     let _ = alloc;
@@ -153,10 +153,10 @@ pub fn names<'a>(alloc: Global, words: &'a [String]) -> Result<Names<'a>, WordsF
 /// `Usage` exactly where the words are not in the grammar. They are read without memory, so that `NoMemory`
 /// never comes.
 pub fn command(alloc: Global, words: &[String]) -> Result<Command, WordsFault>
-    ensures ok { IfOk result (GivesCommand (map string_bytes words.now)) }
-    ensures usage { result ≡ Err Usage → ¬ InGrammar (map string_bytes words.now) }
-    ensures outside { ¬ InGrammar (map string_bytes words.now) → result ≡ Err Usage }
-    ensures inside { InGrammar (map string_bytes words.now) → IsOk result }
+    ensures value { IfOk result (GivesCommand (map string_bytes words.now)) }
+    ensures cause { result ≡ Err Usage → ¬ InGrammar (map string_bytes words.now) }
+    ensures refused { ¬ InGrammar (map string_bytes words.now) → result ≡ Err Usage }
+    ensures complete { InGrammar (map string_bytes words.now) → IsOk result }
     ensures memory { result ≢ Err NoMemory }
 {
     let _ = alloc;

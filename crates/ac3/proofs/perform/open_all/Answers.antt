@@ -1,5 +1,6 @@
 use Rattle.std.proofs.Common.{[], ◌∷◌}
-use Rattle.ac3.specs.Deeds.{told, given, refused, input_of, output_of, report_file, no_input, no_output, no_report}
+use Rattle.ac_app.specs.World.{told}
+use Rattle.ac3.specs.Deeds.{given, refused, input_of, output_of, report_file, no_input, no_output, no_report}
 use Rattle.ac3.proofs.Deeds.{did_then}
 use Rattle.ac3.proofs.perform.open_all.Goals as goal
 
@@ -9,7 +10,7 @@ returns-in_default g c =
 
 pub returns-in_default-open_output : goal.returns-in_default-open_output
 returns-in_default-open_output g c =
-    let i = told (g.D.Input.Source.left c.in-Ok.input) (g.D.Input.Source.faults c.in-Ok.input) in
+    let i = told g.D.Input.Source.left g.D.Input.Source.faults c.in-Ok.input in
     let opened = given (input_of c.args.named.from.now) i ∷ [] in
     let failed = refused (output_of c.args.named.to.now) ∷ [] in (
       given (input_of c.args.named.from.now) i ∷ failed,
@@ -19,8 +20,8 @@ returns-in_default-open_output g c =
 
 pub returns-in_default-open_report : goal.returns-in_default-open_report
 returns-in_default-open_report g c =
-    let i = told (g.D.Input.Source.left c.in-Ok.input) (g.D.Input.Source.faults c.in-Ok.input) in
-    let o = told (g.D.Output.Sink.held c.in-Ok-open_output.output) (g.D.Output.Sink.faults c.in-Ok-open_output.output) in
+    let i = told g.D.Input.Source.left g.D.Input.Source.faults c.in-Ok.input in
+    let o = told g.D.Output.Sink.held g.D.Output.Sink.faults c.in-Ok-open_output.output in
     let first = given (input_of c.args.named.from.now) i ∷ [] in
     let second = given (output_of c.args.named.to.now) o ∷ [] in
     let failed = refused (report_file c.args.named.report.now) ∷ [] in

@@ -1,7 +1,7 @@
 use Rattle.std.proofs.Common.{sym}
 use Rattle.ac_words.specs.Asked.{texts_of}
 use Rattle.ac3.specs.Deeds.{all_compared, one_file}
-use Rattle.ac3.specs.Ends.{tellings_of}
+use Rattle.ac3.specs.Ends.{world_of}
 use Rattle.ac3.proofs.Opens.{opened}
 use Rattle.ac3.proofs.perform.open_apart.Goals as goal
 
@@ -13,5 +13,5 @@ returns-then-is_shared g c =
 pub returns : goal.returns
 returns g c =
     opened (texts_of c.args.named) c.compare-answers.result _ _ _ c.open_all.result
-    (tellings_of g.D.Input.Source.left g.D.Input.Source.faults g.D.Output.Sink.held g.D.Output.Sink.faults g.D.Report.Sink.held g.D.Report.Sink.faults)
+    (world_of g.D.Input.Source.left g.D.Input.Source.faults g.D.Output.Sink.held g.D.Output.Sink.faults g.D.Report.Sink.held g.D.Report.Sink.faults)
     (sym c.if-is_shared.ensures) c.compare-answers.ensures c.open_all.ensures

@@ -3,8 +3,8 @@ use Rattle.ac_app.proofs.top.job.Goals as goal
 
 pub returns-in-Ok-clause-told : goal.returns-in-Ok-clause-told
 returns-in-Ok-clause-told g c = λ bytes told.
-    job_leaves _ c.in-Ok.asked c.follow.result bytes _ _ c.in-Ok.ensures.ok c.follow.ensures.not_usage (c.follow.ensures.told bytes told)
+    job_leaves _ c.in-Ok.asked c.follow.result bytes _ _ c.in-Ok.ensures.value c.follow.ensures.not_usage (c.follow.ensures.told bytes told)
 
 pub returns-in-Ok-clause-cause : goal.returns-in-Ok-clause-cause
 returns-in-Ok-clause-cause g c = λ bytes told.
-    job_cause _ c.in-Ok.asked c.follow.result bytes c.in-Ok.ensures.ok c.follow.ensures.not_usage (c.follow.ensures.cause bytes told)
+    job_cause _ c.in-Ok.asked c.follow.result bytes c.in-Ok.ensures.value c.follow.ensures.not_usage (c.follow.ensures.cause bytes told)
