@@ -21,7 +21,8 @@ RoseAt sinks.Report old new = Rose old.report.faults new.report.faults
 abbrev pub Emits : List ℕ → List ℕ → Result (Unit {0}) Broken → Sinks → Sinks → Type 0
 Emits frame line (Ok _) old new = Adds old.output.bytes new.output.bytes frame × Adds old.report.bytes new.report.bytes line
 Emits frame line (Err sinks.Output) old new = AddsFront old.output.bytes new.output.bytes frame × (new.report ≡ old.report)
-Emits frame line (Err sinks.Report) old new = Adds old.output.bytes new.output.bytes frame × AddsFront old.report.bytes new.report.bytes line
+Emits frame line (Err sinks.Report) old new =
+    Adds old.output.bytes new.output.bytes frame × AddsFront old.report.bytes new.report.bytes line
 
 -- what frame i leaves: it and its line were written, or fronts of them
 pub record FrameLeaves (o : Options) (s : Sound) (i : ℕ) (result : Result (Unit {0}) Broken) (old new : Sinks) : Type 0 where

@@ -83,7 +83,8 @@ fn full_frames<S: Source, O: Sink, N: Sink>(
     ensures count { IfOk result (λ read. (read.frames < 2 ^ 31) × (read.rest < 1536)) }
     ensures row { IfOk result (λ _. Within (2 ^ 23) 1536 (first_row work.new)) }
     ensures bound { Within (2 ^ 23) 256 work.new.last }
-    ensures most_read { (bytes : List ℕ) → HeadRead bytes limit head.now (S.left input.old) → TakesAtMost bytes (limit + 1) (S.left input.new) }
+    ensures most_read { (bytes : List ℕ) → HeadRead bytes limit head.now (S.left input.old)
+        → TakesAtMost bytes (limit + 1) (S.left input.new) }
     ensures rose { IfErr result (λ stop. StopRose stop
         (world S.left S.faults O.held O.faults N.held N.faults input.old output.old report.old)
         (world S.left S.faults O.held O.faults N.held N.faults input.new output.new report.new)) }
@@ -172,7 +173,8 @@ pub fn frames<S: Source, O: Sink, N: Sink>(
         (λ stop. StopLeaves options stop bytes
         (world S.left S.faults O.held O.faults N.held N.faults input.old output.old report.old)
         (world S.left S.faults O.held O.faults N.held N.faults input.new output.new report.new)) }
-    ensures most_read { (bytes : List ℕ) → HeadRead bytes limit head.now (S.left input.old) → TakesAtMost bytes (limit + 1) (S.left input.new) }
+    ensures most_read { (bytes : List ℕ) → HeadRead bytes limit head.now (S.left input.old)
+        → TakesAtMost bytes (limit + 1) (S.left input.new) }
     ensures rose { IfErr result (λ stop. StopRose stop
         (world S.left S.faults O.held O.faults N.held N.faults input.old output.old report.old)
         (world S.left S.faults O.held O.faults N.held N.faults input.new output.new report.new)) }

@@ -14,8 +14,8 @@ ghost use Rattle.ac_app.specs.World.{World};
 
 /// What is true of the first frames of a sound and their lines: they have the bytes that their rate gives; a front of them
 /// is the first frames again; each frame stands at its own place, and its line behind those of the frames before; the
-/// same frame of one sound has the same fields behind crc1, fscod to acmod and the next ones (A/52 5.3.1, 5.3.2); and the samples of these frames alone tell them: the first k frames are those of every sound that continues the
-/// first 1,536 k samples.
+/// same frame of one sound has the same four bytes behind crc1, from fscod on (A/52 5.3.1, 5.3.2); and the samples of
+/// these frames alone tell them: the first k frames are those of every sound that continues the first 1,536 k samples.
 pub fn stream_law()
     ensures size { (o : Options) (k : ℕ) (x : Sound) (stream lines : List ℕ) → IsRate o.rate → x.fscod ≤ 2
         → IsStream o x k stream lines → length stream ≡ stream_size o x k }
@@ -36,7 +36,8 @@ pub fn stream_law()
 pub fn input_law()
     ensures each { (bytes : List ℕ) → ((head : WavHead) × IsInput bytes head)
         ⊎ (((kind : WavKind) × (place : ℕ) × IsRefused bytes kind place) ⊎ IsTooLong bytes) }
-    ensures never_both { (bytes : List ℕ) (head : WavHead) (kind : WavKind) (place : ℕ) → IsInput bytes head → IsRefused bytes kind place → ⊥ }
+    ensures never_both { (bytes : List ℕ) (head : WavHead) (kind : WavKind) (place : ℕ) → IsInput bytes head
+        → IsRefused bytes kind place → ⊥ }
     ensures never_longer { (bytes : List ℕ) (head : WavHead) → IsInput bytes head → IsTooLong bytes → ⊥ }
     ensures never_refused { (bytes : List ℕ) (kind : WavKind) (place : ℕ) → IsRefused bytes kind place → IsTooLong bytes → ⊥ }
     ensures one_head { (bytes : List ℕ) (head other : WavHead) → IsInput bytes head → IsInput bytes other → head ≡ other }

@@ -7,7 +7,8 @@ ghost use Rattle.ac_words.specs.Grammar.{InGrammar};
 ghost use Rattle.ac_words.specs.declared.meaning.Options.{Options};
 ghost use Rattle.ac_app.specs.Input.{limit, IsInput, IsRefused, IsTooLong};
 ghost use Rattle.ac_app.specs.Lines.{status_line};
-ghost use Rattle.ac_app.specs.Run.{RoseFor, IsLawful, CommandLeaves, CommandHasCause, JobLeaves, HasCause, AsksEncode, Tail, answer_of, RunLeaves, IsDone};
+ghost use Rattle.ac_app.specs.Run.{RoseFor, IsLawful, CommandLeaves, CommandHasCause, JobLeaves, HasCause, AsksEncode};
+ghost use Rattle.ac_app.specs.Run.{Tail, answer_of, RunLeaves, IsDone};
 ghost use Rattle.ac_app.specs.World.{told, world, NeverFalls};
 ghost use Rattle.ac_app.specs.declared.status.Status.TheVariants.{Ok, Usage, BadWav, ReadFault, WriteFault, NoMemory, TooLong};
 
