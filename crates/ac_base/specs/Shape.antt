@@ -62,10 +62,22 @@ coupling_end cplendf = 37 + 12 * (cplendf + 3)
 abbrev pub end_of : ℕ → ℕ
 end_of chbwcod = 37 + 3 * (chbwcod + 12)
 
+-- the bins of a full channel that isn't coupled
+abbrev pub free_span : ℕ → Span
+free_span chbwcod = record { start = 0; end = end_of chbwcod; lead = Free }
+
+-- the bins of a coupled channel
+abbrev pub coupled_span : ℕ → Span
+coupled_span cplbegf = record { start = 0; end = coupling_start cplbegf; lead = Coupled }
+
+-- the bins of the coupling channel
+abbrev pub coupling_span : ℕ → ℕ → Span
+coupling_span cplbegf cplendf = record { start = coupling_start cplbegf; end = coupling_end cplendf; lead = Coupling }
+
 -- the bins of a full channel
 abbrev pub full_span : ℕ → Option (ℕ × ℕ) → Span
-full_span bw None = record { start = 0; end = end_of bw; lead = Free }
-full_span bw (Some p) = record { start = 0; end = coupling_start p.0; lead = Coupled }
+full_span bw None = free_span bw
+full_span bw (Some p) = coupled_span p.0
 
 -- the bins of LFE
 abbrev pub low_span : Span
@@ -74,7 +86,7 @@ low_span = record { start = 0; end = 7; lead = Low }
 -- the bins of the channel behind the full ones
 abbrev pub next_span : Option (ℕ × ℕ) → Span
 next_span None = low_span
-next_span (Some p) = record { start = coupling_start p.0; end = coupling_end p.1; lead = Coupling }
+next_span (Some p) = coupling_span p.0 p.1
 
 -- the bins of coded channel c
 abbrev pub span_of : ℕ → ℕ → Option (ℕ × ℕ) → ℕ → Span

@@ -1,5 +1,6 @@
 -- The sizes of frames, in words of 16 bits, and the bits that their parts have room for (A/52 5.4.1.2, 5.4.1.4, 7.10).
-use Rattle.std.specs.Prelude.{ℕ, ◌+◌, ◌-◌, ◌*◌, ◌/◌, nat_eq, if◌then◌else◌}
+use Rattle.std.specs.Prelude.{ℕ, ◌+◌, ◌-◌, ◌*◌, ◌/◌, ◌%◌, nat_eq, if◌then◌else◌, slice_index}
+use Rattle.ac_base.specs.Rates.{rates}
 
 -- at 44.1 kHz: the words of the first n frames, where 1,536 samples take 320 / 147 words for each kbit/s; that the sizes alternate so is
 -- this project's profile
@@ -20,6 +21,11 @@ table_words rate fscod =
     if nat_eq fscod 0 then 2 * rate
     else if nat_eq fscod 1 then 320 * rate / 147
     else 3 * rate
+
+-- the words of a frame by fscod and frmsizecod, from 0 to 37 (A/52 Table 5.18)
+abbrev pub code_words : ℕ → ℕ → ℕ
+code_words fscod frmsizecod =
+    table_words (slice_index rates (frmsizecod / 2)) fscod + (if nat_eq fscod 1 then frmsizecod % 2 else 0)
 
 -- the words that crc1 covers, syncword and crc1 among them: five eighths of the frame (A/52 5.4.1.2, 7.10.1)
 abbrev pub front_words_of : ℕ → ℕ

@@ -5,6 +5,7 @@ ghost use Rattle.ac_base.specs.SideBits.{head_rows, first_block_rows, later_bloc
 
 use crate::shapes::Shape;
 use crate::sizes::Parts;
+use crate::spans::{coupling_subbands, rematrix_bands};
 
 /// auxdatae, crcrsv and crc2.
 const TAIL: u32 = 18;
@@ -20,12 +21,12 @@ fn head_bits(shape: &Shape) -> u32
     }
 }
 
-/// The subbands of a coupling, from cplbegf to cplendf + 2 (A/52 5.4.3.12).
+/// The subbands of a coupling, or 0.
 fn subband_count(shape: &Shape) -> u32
     ensures { result ≡ subbands shape.now.couple }
 {
     match shape.couple {
-        Some((begin, end)) => 3 + u32::from(end) - u32::from(begin),
+        Some((begin, end)) => u32::from(coupling_subbands(begin, end)),
         None => 0,
     }
 }
@@ -34,11 +35,10 @@ fn subband_count(shape: &Shape) -> u32
 fn rematrix_bits(shape: &Shape) -> u32
     ensures { result ≡ when (is_stereo shape.now.acmod) (1 + rematrix_bands shape.now.couple) }
 {
-    match shape.couple {
-        _ if shape.acmod != 2 => 0,
-        Some((0, _)) => 1 + 2,
-        Some((1 | 2, _)) => 1 + 3,
-        _ => 1 + 4,
+    if shape.acmod == 2 {
+        1 + u32::from(rematrix_bands(shape.couple))
+    } else {
+        0
     }
 }
 

@@ -1,6 +1,9 @@
 //! The sizes of frames, and the parts of a frame that have a room of their own.
-ghost use Rattle.std.specs.Prelude.{◌≡◌, ◌≤◌, ◌<◌, ◌^◌, ◌+◌, ◌-◌, ◌*◌, ◌/◌, ◌⊎◌, ℕ};
-ghost use Rattle.ac_base.specs.Sizes.{frame_words_of, words_before, table_words, front_words_of, front_room, end_room};
+ghost use Rattle.std.specs.Prelude.{◌≡◌, ◌≤◌, ◌<◌, ◌^◌, ◌+◌, ◌-◌, ◌*◌, ◌/◌, ◌⊎◌, ◌↔◌, ℕ, IsTrue};
+ghost use Rattle.ac_base.specs.Sizes.{frame_words_of, words_before, table_words, front_words_of, front_room, end_room, code_words};
+ghost use Rattle.ac_base.specs.Fit.{FitIn};
+
+use crate::rates::rate;
 
 /// A part of a frame that has a room of its own.
 #[derive(Clone, Copy, Debug, PartialEq, Eq)]
@@ -22,6 +25,18 @@ pub struct Parts {
     pub total: u32,
     /// Of the mantissas of block 5.
     pub last: u32,
+}
+
+impl Parts {
+    /// Whether parts of these bits fit a frame of so many words, from 64 to 1920.
+    pub fn fit(&self, words: u16) -> bool
+        requires least { 64 ≤ words }
+        requires most { words ≤ 1920 }
+        ensures value { IsTrue result ↔ FitIn words self.now }
+    {
+        let rooms = rooms(words);
+        self.front <= rooms.front && self.total <= rooms.total && self.last <= rooms.last
+    }
 }
 
 /// The words that crc1 covers, five eighths of the frame's (A/52 5.4.1.2).
@@ -73,6 +88,22 @@ pub fn frame_words(rate: u16, fscod: u8, frame: u64) -> u16
     match fscod {
         0 => 2 * rate,
         1 => (words_ahead(rate, frame + 1) - words_ahead(rate, frame)) as u16,
+        _ => 3 * rate,
+    }
+}
+
+/// The words of a frame by fscod, at most 2, and frmsizecod, at most 37 (A/52 5.4.1.4, Table 5.18).
+pub fn code_words(fscod: u8, frmsizecod: u8) -> u16
+    requires sampling { fscod ≤ 2 }
+    requires code { frmsizecod ≤ 37 }
+    ensures value { result ≡ code_words fscod frmsizecod }
+    ensures least { 64 ≤ result }
+    ensures most { result ≤ 1920 }
+{
+    let rate = rate(frmsizecod / 2);
+    match fscod {
+        0 => 2 * rate,
+        1 => (320 * u32::from(rate) / 147) as u16 + u16::from(frmsizecod % 2),
         _ => 3 * rate,
     }
 }

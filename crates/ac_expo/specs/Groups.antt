@@ -3,9 +3,10 @@
 use Rattle.std.specs.Prelude.{◌≡◌, ℕ, zero, suc, ◌+◌, ◌-◌, ◌*◌, ◌/◌, ◌%◌, ◌<◌, ◌≤◌, ◌==◌, ◌⊎◌, min, nat_lt, if◌then◌else◌, List, [], ◌∷◌, ◌++◌, length, slice_index}
 use Rattle.ac_base.specs.declared.spans.Lead.{Lead}
 use Rattle.ac_base.specs.declared.spans.Span.{Span}
-use Rattle.ac_expo.specs.Spans.{IsIn, IsKind, is_coupling}
+use Rattle.ac_base.specs.Spans.{IsIn, IsKind, is_coupling}
 use Rattle.ac_base.specs.Shape.{IsSpan}
-use Rattle.ac_expo.specs.Steps.{step_of, bin_of, groups_of}
+use Rattle.ac_base.specs.Spans.{groups_of}
+use Rattle.ac_expo.specs.Steps.{step_of, bin_of}
 use Rattle.ac_expo.specs.Greatest.{IsSpellable}
 use Rattle.ac_expo.specs.Spelling.{Spelling}
 

@@ -3,7 +3,7 @@ use Rattle.std.specs.Prelude.{◌≡◌, ℕ, zero, suc, ◌*◌, ◌^◌, ◌<�
 use Rattle.ac_base.specs.declared.shapes.Shape.{Shape}
 use Rattle.ac_base.specs.declared.spans.Span.{Span}
 use Rattle.ac_base.specs.Shape.{span_of, coded_of}
-use Rattle.ac_expo.specs.Spans.{IsIn}
+use Rattle.ac_base.specs.Spans.{IsIn}
 
 -- the greatest e from 0 to n with magnitude * 2 ^ e below 2 ^ 24, by a search downwards
 unfoldable pub raw_below : ℕ → ℕ → ℕ

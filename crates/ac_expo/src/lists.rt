@@ -1,15 +1,14 @@
 //! The exponents of a run: the greatest list that its kind can spell and that is at most the raw exponents.
 ghost use Rattle.std.specs.Prelude.{◌≡◌, ℕ, ◌+◌, ◌-◌, ◌*◌, ◌<◌, ◌≤◌, min, [], length, slice_index, slice_index_or};
-ghost use Rattle.ac_expo.specs.Spans.{IsIn, IsKind, is_coupling};
+ghost use Rattle.ac_base.specs.Spans.{IsIn, IsKind, is_coupling};
 ghost use Rattle.ac_base.specs.Shape.{IsSpan};
 ghost use Rattle.ac_expo.specs.Steps.{step_of, last_step};
 ghost use Rattle.ac_expo.specs.Least.{spread};
 ghost use Rattle.ac_expo.specs.Greatest.{IsGreatest, IsByFormula, bin_least, step_least, step_exponent, capped};
 
-use crate::run::Run;
 use crate::smooth::smooth;
 use crate::steps::{coupling, groups, step};
-use ac_base::{Lead, Span};
+use ac_base::{Lead, Run, Span};
 
 /// Lowers each bin of the span to that of a row.
 fn lower_bins(row: &[u8; 256], span: &Span, bins: &mut [u8; 256])

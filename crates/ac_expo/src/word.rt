@@ -1,6 +1,7 @@
 //! Strategy words.
 ghost use Rattle.std.specs.Prelude.{◌≡◌, ◌↔◌, ℕ, ◌<◌, ◌≤◌, List, Option, None, IsTrue, IsSome, IfSome, slice_index};
-ghost use Rattle.ac_expo.specs.Words.{IsWord, word_list};
+ghost use Rattle.ac_base.specs.Words.{IsWord};
+ghost use Rattle.ac_expo.specs.Words.{word_list};
 
 use std::marker::Model;
 
@@ -44,6 +45,14 @@ impl Word {
             return None;
         }
         Some(Word { codes })
+    }
+
+    /// The six codes.
+    pub fn codes(&self) -> [u8; 6]
+        ensures value { result ≡ self.now }
+        ensures word { IsWord result }
+    {
+        self.codes
     }
 
     /// The code of a block.

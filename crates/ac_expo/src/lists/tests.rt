@@ -1,6 +1,6 @@
 ghost use Rattle.std.specs.Prelude.{◌≡◌, ◌≤◌, ◌<◌};
 ghost use Rattle.ac_base.specs.Shape.{IsSpan};
-ghost use Rattle.ac_expo.specs.Spans.{greatest_kind};
+ghost use Rattle.ac_base.specs.Spans.{greatest_kind};
 
 use super::*;
 use crate::expanding::expand;

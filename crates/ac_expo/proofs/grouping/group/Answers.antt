@@ -1,5 +1,5 @@
 use Rattle.std.proofs.Common.{◌≡◌, ◌++◌, ◌∷◌, ℕ, List, [], length, slice_index, arith, ap, ap₂, sym, ◌∙◌}
-use Rattle.ac_expo.specs.Steps.{groups_of}
+use Rattle.ac_base.specs.Spans.{groups_of}
 use Rattle.ac_expo.specs.Spelling.{Spelling}
 use Rattle.ac_expo.specs.Groups.{first_of, groups_below, group_of, spelled_of}
 use Rattle.ac_expo.proofs.Places.{placed, first_small}
