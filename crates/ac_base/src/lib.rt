@@ -9,6 +9,7 @@ mod cosine_table;
 mod costs;
 mod memory;
 mod numbers;
+mod profile;
 mod rates;
 mod runs;
 mod shapes;
@@ -17,12 +18,15 @@ mod sizes;
 mod spans;
 mod window_table;
 
-pub use allocation_tables::{band_of, band_start, baptab, hearing, latab};
+pub use allocation_tables::{BANDS, BINS, band_of, band_start, baptab, hearing, latab};
 pub use coefficients::Coefs;
 pub use cosine_table::{cosine, cosines, quarter};
 pub use costs::cost_laws;
 pub use memory::NoMemory;
 pub use numbers::{Fix, add_product, dot, isqrt};
+pub use profile::{
+    CPLFLEAK, CPLSLEAK, DBPBCOD, FDCYCOD, FGAINCOD, FLOORCOD, SDCYCOD, SGAINCOD,
+};
 pub use rates::{is_rate, rate, rate_code};
 pub use runs::{Run, run_laws};
 pub use shapes::Shape;
