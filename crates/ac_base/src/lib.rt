@@ -17,7 +17,7 @@ mod window_table;
 
 pub use allocation_tables::{band_of, band_start, baptab, hearing, latab};
 pub use coefficients::Coefs;
-pub use cosine_table::{cosine, cosines, quarter};
+pub use cosine_table::{QUARTER, cosine, cosines, quarter};
 pub use memory::NoMemory;
 pub use numbers::{Fix, add_product, dot, isqrt};
 pub use rates::{is_rate, rate, rate_code};
