@@ -9,12 +9,16 @@ const MOST: i64 = (1 << 24) - 1;
 
 /// The least and the greatest sample of 24 bits.
 const LEAST_SAMPLE: i64 = -(1 << 23);
+
 const GREATEST_SAMPLE: i64 = (1 << 23) - 1;
 
 /// Half a unit of a windowed sample, of a coefficient, of a part and of a sample, as their sums have it.
 const HALF_WINDOWED: i64 = 1 << 14;
+
 const HALF_COEFFICIENT: i64 = 1 << 36;
+
 const HALF_PART: i64 = 1 << 21;
+
 const HALF_SAMPLE: i64 = 1 << 22;
 
 /// `a * b`, without overflow.
