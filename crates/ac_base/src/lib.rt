@@ -20,7 +20,7 @@ mod window_table;
 
 pub use allocation_tables::{BANDS, BINS, band_of, band_start, baptab, hearing, latab};
 pub use coefficients::Coefs;
-pub use cosine_table::{cosine, cosines, quarter};
+pub use cosine_table::{QUARTER, cosine, cosines, quarter};
 pub use costs::cost_laws;
 pub use memory::NoMemory;
 pub use numbers::{Fix, add_product, dot, isqrt};
