@@ -10,7 +10,7 @@ use Rattle.ac_base.specs.Counts.{Tally, none, with_one, joined, exact_of}
 use Rattle.ac_base.specs.Shape.{coded_of, span_of}
 use Rattle.ac_base.specs.SideBits.{side_front, side_total}
 use Rattle.ac_base.specs.Sigma.{sum_below}
-use Rattle.ac_base.specs.Sizes.{front_room, end_room}
+use Rattle.ac_base.specs.Sizes.{front_room, end_room, tail_bits, skip_spare}
 use Rattle.ac_base.specs.Spans.{groups_of}
 use Rattle.ac_base.specs.Words.{word_of}
 
@@ -60,6 +60,10 @@ block_cost acmod lfe bw couple assign bap b =
     let coded = coded_of acmod lfe couple in
     exponents_in span coded assign b + mantissas_in span coded bap b
 
+-- the side bits of each part: the mantissas of block 5 have none
+abbrev pub side_of : ℕ → Bool → Option (ℕ × ℕ) → Parts
+side_of acmod lfe couple = record { front = side_front acmod lfe couple; total = side_total acmod lfe couple; last = 0 }
+
 -- all bits to the end of block 1; all bits of the frame but its padding; the mantissas of block 5
 abbrev pub parts_of : ℕ → Bool → ℕ → Option (ℕ × ℕ) → List (List ℕ) → (ℕ → ℕ → ℕ → ℕ) → Parts
 parts_of acmod lfe bw couple assign bap = record {
@@ -68,12 +72,16 @@ parts_of acmod lfe bw couple assign bap = record {
   last = mantissas_in (span_of acmod bw couple) (coded_of acmod lfe couple) bap 5;
 }
 
--- parts that fit a frame of so many words: behind the mantissas of block 5 stand 18 bits of auxdatae, crcrsv and crc2, and 8 are kept
--- for what a skip field may leave over
+-- the rooms of a frame of so many words: behind the mantissas of block 5 stand auxdatae, crcrsv and crc2, and what a skip field may
+-- leave over
+abbrev pub rooms_of : ℕ → Parts
+rooms_of words = record { front = front_room words; total = 16 * words; last = end_room words - (tail_bits + skip_spare) }
+
+-- parts that fit a frame of so many words
 pub record FitIn (words : ℕ) (parts : Parts) : Type 0 where
-  pub front_room : parts.front ≤ front_room words
+  pub in_front : parts.front ≤ front_room words
   pub whole : parts.total ≤ 16 * words
-  pub end_room : parts.last + 26 ≤ end_room words
+  pub at_end : parts.last + tail_bits + skip_spare ≤ end_room words
 
 -- the assignment fits
 abbrev pub Fits : ℕ → Bool → ℕ → Option (ℕ × ℕ) → ℕ → List (List ℕ) → (ℕ → ℕ → ℕ → ℕ) → Type 0

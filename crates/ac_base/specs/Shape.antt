@@ -2,6 +2,7 @@
 -- A coupling is a pair of cplbegf and cplendf.
 use Rattle.std.specs.Prelude.{ℕ, ◌≡◌, ◌+◌, ◌-◌, ◌*◌, ◌≤◌, Bool, ◌||◌, nat_lt, nat_le, nat_eq, is_some, if◌then◌else◌, Option, Some, None, [], ◌∷◌, slice_index}
 use Rattle.std.specs.Option.{ForSome}
+use Rattle.ac_base.specs.Sizes.{least_words, most_words}
 use Rattle.ac_base.specs.declared.spans.Span.{Span}
 use Rattle.ac_base.specs.declared.spans.Lead.{Lead}
 use Rattle.ac_base.specs.declared.spans.Lead.TheVariants.{Free, Coupled, Coupling, Low}
@@ -14,7 +15,7 @@ IsCoupling acmod couple = ForSome couple (λ p. (2 ≤ acmod) × (p.0 ≤ 15) ×
 -- coupling and the words of a frame (Table 5.18)
 abbrev pub IsShape : ℕ → ℕ → ℕ → Option (ℕ × ℕ) → ℕ → Type 0
 IsShape fscod acmod bw couple words =
-    (fscod ≤ 2) × (1 ≤ acmod) × (acmod ≤ 7) × (bw ≤ 60) × (64 ≤ words) × (words ≤ 1920) × IsCoupling acmod couple
+    (fscod ≤ 2) × (1 ≤ acmod) × (acmod ≤ 7) × (bw ≤ 60) × (least_words ≤ words) × (words ≤ most_words) × IsCoupling acmod couple
 
 -- the full-bandwidth channels, by acmod (A/52 Table 5.8)
 abbrev pub full_of : ℕ → ℕ

@@ -2,6 +2,21 @@
 use Rattle.std.specs.Prelude.{ℕ, ◌+◌, ◌-◌, ◌*◌, ◌/◌, ◌%◌, nat_eq, if◌then◌else◌, slice_index}
 use Rattle.ac_base.specs.Rates.{rates}
 
+-- the words of the smallest and of the largest frame (A/52 Table 5.18)
+abbrev pub least_words : ℕ
+least_words = 64
+
+abbrev pub most_words : ℕ
+most_words = 1920
+
+-- the bits with which each frame ends: auxdatae, crcrsv and crc2 (A/52 5.3.4, 5.3.5)
+abbrev pub tail_bits : ℕ
+tail_bits = 18
+
+-- the bits that a skip field may leave over, since its bytes are whole (A/52 5.4.3.60)
+abbrev pub skip_spare : ℕ
+skip_spare = 8
+
 -- at 44.1 kHz: the words of the first n frames, where 1,536 samples take 320 / 147 words for each kbit/s; that the sizes alternate so is
 -- this project's profile
 abbrev pub words_before : ℕ → ℕ → ℕ

@@ -31,7 +31,7 @@ pub use rates::{is_rate, rate, rate_code};
 pub use runs::{Run, run_laws};
 pub use shapes::Shape;
 pub use side::{side_bits, side_bits_law};
-pub use sizes::{Part, Parts, code_words, frame_words, front_words, rooms};
+pub use sizes::{LEAST_WORDS, MOST_WORDS, Part, Parts, TAIL_BITS, code_words, frame_words, front_words, rooms};
 pub use spans::{
     Lead, Span, coupled_span, coupling_span, coupling_subbands, free_span, low_span, rematrix_bands,
 };

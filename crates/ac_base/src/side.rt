@@ -1,14 +1,12 @@
 //! The side bits of a frame: the rows of its syntax other than exponents and mantissas.
 ghost use Rattle.std.specs.Prelude.{◌≡◌, ◌≤◌, ◌<◌, ◌+◌, ◌*◌, ℕ, Bool, Option, sum};
 ghost use Rattle.ac_base.specs.Shape.{IsCoupling, subbands, rematrix_bands, is_stereo};
+ghost use Rattle.ac_base.specs.Fit.{side_of};
 ghost use Rattle.ac_base.specs.SideBits.{head_rows, first_block_rows, later_block_rows, side_front, side_total, when, head_formula, first_block_formula, later_block_formula};
 
 use crate::shapes::Shape;
-use crate::sizes::Parts;
+use crate::sizes::{Parts, TAIL_BITS};
 use crate::spans::{coupling_subbands, rematrix_bands};
-
-/// auxdatae, crcrsv and crc2.
-const TAIL: u32 = 18;
 
 /// syncinfo and bsi (A/52 5.3.1, 5.3.2).
 fn head_bits(shape: &Shape) -> u32
@@ -73,15 +71,13 @@ fn later_block_bits(shape: &Shape) -> u32
 /// (A/52 5.3): the head with block 0 and one later block, the whole frame, and nothing.
 #[tactic(auto, unfolding(crate::specs::SideBits::side_front, crate::specs::SideBits::side_total))]
 pub fn side_bits(shape: &Shape) -> Parts
-    ensures front { result.front ≡ side_front shape.now.acmod shape.now.lfe shape.now.couple }
-    ensures total { result.total ≡ side_total shape.now.acmod shape.now.lfe shape.now.couple }
-    ensures last { result.last ≡ 0 }
+    ensures value { result ≡ side_of shape.now.acmod shape.now.lfe shape.now.couple }
 {
     let start = head_bits(shape) + first_block_bits(shape);
     let later = later_block_bits(shape);
     Parts {
         front: start + later,
-        total: start + 5 * later + TAIL,
+        total: start + 5 * later + TAIL_BITS,
         last: 0,
     }
 }

@@ -81,7 +81,7 @@ impl BitSink {
     /// How many bits were put.
     pub fn len(&self) -> u32
         ensures len { result ≡ length self.now }
-        ensures within { length self.now ≤ frame_bits }
+        ensures bound { length self.now ≤ frame_bits }
     {
         8 * self.full as u32 + self.used
     }
@@ -92,7 +92,7 @@ impl BitSink {
     pub fn bytes(&self, out: &mut [u8; FRAME_BYTES]) -> usize
         requires { length self.now % 8 ≡ 0 }
         ensures count { 8 * result ≡ length self.now }
-        ensures bytes { bits_of (take result out.new) ≡ self.now }
+        ensures value { bits_of (take result out.new) ≡ self.now }
         ensures rest { drop result out.new ≡ drop result out.old }
     {
         out[..self.full].copy_from_slice(&self.buf[..self.full]);

@@ -23,7 +23,7 @@ fn stop_of(codes: &[u8; 6], from: u8) -> u8
 
 /// The runs of a word: from each block that sends exponents up to the next one, or to the end of the frame.
 pub fn runs(word: &Word) -> ArrayVec<Run, 6>
-    ensures runs { result.items ≡ runs_of word.now }
+    ensures value { result.items ≡ runs_of word.now }
     ensures each { All IsRun result.items }
 {
     let codes = word.codes();

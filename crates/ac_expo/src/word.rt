@@ -38,8 +38,8 @@ fn are_small(codes: &[u8; 6]) -> bool
 impl Word {
     /// The word of six codes; none where block 0 sends nothing or a code is over 3.
     pub fn new(codes: [u8; 6]) -> Option<Word>
-        ensures made { IsSome result ↔ IsWord codes }
-        ensures same { IfSome result (λ word. word ≡ codes) }
+        ensures cause { IsSome result ↔ IsWord codes }
+        ensures value { IfSome result (λ word. word ≡ codes) }
     {
         if codes[0] == 0 || !are_small(&codes) {
             return None;
