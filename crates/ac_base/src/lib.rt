@@ -24,14 +24,14 @@ pub use cosine_table::{QUARTER, cosine, cosines, quarter};
 pub use costs::cost_laws;
 pub use memory::NoMemory;
 pub use numbers::{Fix, add_product, dot, isqrt};
-pub use profile::{
-    CPLFLEAK, CPLSLEAK, DBPBCOD, FDCYCOD, FGAINCOD, FLOORCOD, SDCYCOD, SGAINCOD,
-};
+pub use profile::{CPLFLEAK, CPLSLEAK, DBPBCOD, FDCYCOD, FGAINCOD, FLOORCOD, SDCYCOD, SGAINCOD};
 pub use rates::{is_rate, rate, rate_code};
 pub use runs::{Run, run_laws};
 pub use shapes::Shape;
 pub use side::{side_bits, side_bits_law};
-pub use sizes::{LEAST_WORDS, MOST_WORDS, Part, Parts, TAIL_BITS, code_words, frame_words, front_words, rooms};
+pub use sizes::{
+    LEAST_WORDS, MOST_WORDS, Part, Parts, TAIL_BITS, code_words, frame_words, front_words, rooms,
+};
 pub use spans::{
     Lead, Span, coupled_span, coupling_span, coupling_subbands, free_span, low_span, rematrix_bands,
 };

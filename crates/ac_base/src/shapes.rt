@@ -61,7 +61,13 @@ impl Shape {
         ensures coupling { IfSome result (λ s. s.couple ≡ couple) }
         ensures size { IfSome result (λ s. s.words ≡ words) }
     {
-        if fscod > 2 || acmod < 1 || acmod > 7 || bw > 60 || words < LEAST_WORDS || words > MOST_WORDS {
+        if fscod > 2
+            || acmod < 1
+            || acmod > 7
+            || bw > 60
+            || words < LEAST_WORDS
+            || words > MOST_WORDS
+        {
             return None;
         }
         if let Some((begin, end)) = couple

@@ -29,7 +29,12 @@ impl Model for BitSink {
 }
 
 /// Moves whole bytes of `held` into the buffer.
-fn flush(buf: &mut [u8; FRAME_BYTES], mut full: usize, mut held: u64, mut used: u32) -> (usize, u64, u32)
+fn flush(
+    buf: &mut [u8; FRAME_BYTES],
+    mut full: usize,
+    mut held: u64,
+    mut used: u32,
+) -> (usize, u64, u32)
     requires room { 8 * full + used ≤ frame_bits }
     requires small { used < 40 }
     requires fits { held < 2 ^ used }
