@@ -1,10 +1,11 @@
 -- What an assignment of strategies costs in a frame, and when it fits. A table gives the bit allocation pointer of each bin, by coded
 -- channel, block and bin. The rows are those of A/52 5.3.3, the groups those of 7.1.3 and 7.3.5; the parts and their rooms are this
 -- project's own.
-use Rattle.std.specs.Prelude.{ℕ, zero, suc, ◌+◌, ◌-◌, ◌*◌, ◌≤◌, ◌==◌, if◌then◌else◌, Bool, Option, List, slice_index}
+use Rattle.std.specs.Prelude.{◌≡◌, ℕ, zero, suc, ◌+◌, ◌-◌, ◌*◌, ◌≤◌, ◌==◌, nat_lt, if◌then◌else◌, Bool, Option, List, [], ◌∷◌, slice_index}
 use Rattle.ac_base.specs.declared.spans.Lead.{Lead}
 use Rattle.ac_base.specs.declared.spans.Lead.TheVariants.{Free, Coupled, Coupling, Low}
 use Rattle.ac_base.specs.declared.spans.Span.{Span}
+use Rattle.ac_base.specs.declared.runs.Run.{Run}
 use Rattle.ac_base.specs.declared.sizes.Parts.{Parts}
 use Rattle.ac_base.specs.Counts.{Tally, none, with_one, joined, exact_of}
 use Rattle.ac_base.specs.Shape.{coded_of, span_of}
@@ -12,7 +13,7 @@ use Rattle.ac_base.specs.SideBits.{side_front, side_total}
 use Rattle.ac_base.specs.Sigma.{sum_below}
 use Rattle.ac_base.specs.Sizes.{front_room, end_room, tail_bits, skip_spare}
 use Rattle.ac_base.specs.Spans.{groups_of}
-use Rattle.ac_base.specs.Words.{word_of}
+use Rattle.ac_base.specs.Words.{runs_of, word_of}
 
 -- ---- exponents
 
@@ -86,3 +87,28 @@ pub record FitIn (words : ℕ) (parts : Parts) : Type 0 where
 -- the assignment fits
 abbrev pub Fits : ℕ → Bool → ℕ → Option (ℕ × ℕ) → ℕ → List (List ℕ) → (ℕ → ℕ → ℕ → ℕ) → Type 0
 Fits acmod lfe bw couple words assign bap = FitIn words (parts_of acmod lfe bw couple assign bap)
+
+-- ---- the same by runs
+
+-- the exponent bits of those of these runs that begin in the first n blocks
+abbrev pub run_bits : Span → ℕ → List Run → ℕ
+run_bits span n [] = 0
+run_bits span n (run ∷ runs) = (if nat_lt run.from n then exponent_bits run.kind span else 0) + run_bits span n runs
+
+-- of the runs of all coded channels
+abbrev pub all_run_bits : ℕ → Bool → ℕ → Option (ℕ × ℕ) → List (List ℕ) → ℕ → ℕ
+all_run_bits acmod lfe bw couple assign n =
+    sum_below (coded_of acmod lfe couple) (λ c. run_bits (span_of acmod bw couple c) n (runs_of (word_of assign c)))
+
+-- the bits of the mantissas of the first n blocks
+abbrev pub mantissa_bits : ℕ → Bool → ℕ → Option (ℕ × ℕ) → (ℕ → ℕ → ℕ → ℕ) → ℕ → ℕ
+mantissa_bits acmod lfe bw couple bap n = sum_below n (mantissas_in (span_of acmod bw couple) (coded_of acmod lfe couple) bap)
+
+-- the front has the exponents of the runs that begin in blocks 0 and 1, and the whole frame those of all: a law of these definitions
+abbrev pub PartsAreByRuns : Type 0
+PartsAreByRuns =
+    (acmod : ℕ) (lfe : Bool) (bw : ℕ) (couple : Option (ℕ × ℕ)) (assign : List (List ℕ)) (bap : ℕ → ℕ → ℕ → ℕ)
+    → ((parts_of acmod lfe bw couple assign bap).front
+    ≡ side_front acmod lfe couple + all_run_bits acmod lfe bw couple assign 2 + mantissa_bits acmod lfe bw couple bap 2)
+    × ((parts_of acmod lfe bw couple assign bap).total
+    ≡ side_total acmod lfe couple + all_run_bits acmod lfe bw couple assign 6 + mantissa_bits acmod lfe bw couple bap 6)
