@@ -56,8 +56,8 @@ mantissas_in span n bap b = exact_of (tally_channels span n (λ c. bap c b))
 
 -- the bits of block b's exponents and mantissas, in a frame of this shape
 abbrev pub block_cost : ℕ → Bool → ℕ → Option (ℕ × ℕ) → List (List ℕ) → (ℕ → ℕ → ℕ → ℕ) → ℕ → ℕ
-block_cost acmod lfe bw couple assign bap b =
-    let span = span_of acmod bw couple in
+block_cost acmod lfe chbwcod couple assign bap b =
+    let span = span_of acmod chbwcod couple in
     let coded = coded_of acmod lfe couple in
     exponents_in span coded assign b + mantissas_in span coded bap b
 
@@ -67,10 +67,10 @@ side_of acmod lfe couple = record { front = side_front acmod lfe couple; total =
 
 -- all bits to the end of block 1; all bits of the frame but its padding; the mantissas of block 5
 abbrev pub parts_of : ℕ → Bool → ℕ → Option (ℕ × ℕ) → List (List ℕ) → (ℕ → ℕ → ℕ → ℕ) → Parts
-parts_of acmod lfe bw couple assign bap = record {
-  front = side_front acmod lfe couple + sum_below 2 (block_cost acmod lfe bw couple assign bap);
-  total = side_total acmod lfe couple + sum_below 6 (block_cost acmod lfe bw couple assign bap);
-  last = mantissas_in (span_of acmod bw couple) (coded_of acmod lfe couple) bap 5;
+parts_of acmod lfe chbwcod couple assign bap = record {
+  front = side_front acmod lfe couple + sum_below 2 (block_cost acmod lfe chbwcod couple assign bap);
+  total = side_total acmod lfe couple + sum_below 6 (block_cost acmod lfe chbwcod couple assign bap);
+  last = mantissas_in (span_of acmod chbwcod couple) (coded_of acmod lfe couple) bap 5;
 }
 
 -- the rooms of a frame of so many words: behind the mantissas of block 5 stand auxdatae, crcrsv and crc2, and what a skip field may
@@ -86,7 +86,7 @@ pub record FitIn (words : ℕ) (parts : Parts) : Type 0 where
 
 -- the assignment fits
 abbrev pub Fits : ℕ → Bool → ℕ → Option (ℕ × ℕ) → ℕ → List (List ℕ) → (ℕ → ℕ → ℕ → ℕ) → Type 0
-Fits acmod lfe bw couple words assign bap = FitIn words (parts_of acmod lfe bw couple assign bap)
+Fits acmod lfe chbwcod couple words assign bap = FitIn words (parts_of acmod lfe chbwcod couple assign bap)
 
 -- ---- the same by runs
 
@@ -97,18 +97,18 @@ run_bits span n (run ∷ runs) = (if nat_lt run.from n then exponent_bits run.ki
 
 -- of the runs of all coded channels
 abbrev pub all_run_bits : ℕ → Bool → ℕ → Option (ℕ × ℕ) → List (List ℕ) → ℕ → ℕ
-all_run_bits acmod lfe bw couple assign n =
-    sum_below (coded_of acmod lfe couple) (λ c. run_bits (span_of acmod bw couple c) n (runs_of (word_of assign c)))
+all_run_bits acmod lfe chbwcod couple assign n =
+    sum_below (coded_of acmod lfe couple) (λ c. run_bits (span_of acmod chbwcod couple c) n (runs_of (word_of assign c)))
 
 -- the bits of the mantissas of the first n blocks
 abbrev pub mantissa_bits : ℕ → Bool → ℕ → Option (ℕ × ℕ) → (ℕ → ℕ → ℕ → ℕ) → ℕ → ℕ
-mantissa_bits acmod lfe bw couple bap n = sum_below n (mantissas_in (span_of acmod bw couple) (coded_of acmod lfe couple) bap)
+mantissa_bits acmod lfe chbwcod couple bap n = sum_below n (mantissas_in (span_of acmod chbwcod couple) (coded_of acmod lfe couple) bap)
 
 -- the front has the exponents of the runs that begin in blocks 0 and 1, and the whole frame those of all: a law of these definitions
 abbrev pub PartsAreByRuns : Type 0
 PartsAreByRuns =
-    (acmod : ℕ) (lfe : Bool) (bw : ℕ) (couple : Option (ℕ × ℕ)) (assign : List (List ℕ)) (bap : ℕ → ℕ → ℕ → ℕ)
-    → ((parts_of acmod lfe bw couple assign bap).front
-    ≡ side_front acmod lfe couple + all_run_bits acmod lfe bw couple assign 2 + mantissa_bits acmod lfe bw couple bap 2)
-    × ((parts_of acmod lfe bw couple assign bap).total
-    ≡ side_total acmod lfe couple + all_run_bits acmod lfe bw couple assign 6 + mantissa_bits acmod lfe bw couple bap 6)
+    (acmod : ℕ) (lfe : Bool) (chbwcod : ℕ) (couple : Option (ℕ × ℕ)) (assign : List (List ℕ)) (bap : ℕ → ℕ → ℕ → ℕ)
+    → ((parts_of acmod lfe chbwcod couple assign bap).front
+    ≡ side_front acmod lfe couple + all_run_bits acmod lfe chbwcod couple assign 2 + mantissa_bits acmod lfe chbwcod couple bap 2)
+    × ((parts_of acmod lfe chbwcod couple assign bap).total
+    ≡ side_total acmod lfe couple + all_run_bits acmod lfe chbwcod couple assign 6 + mantissa_bits acmod lfe chbwcod couple bap 6)

@@ -14,8 +14,8 @@ IsCoupling acmod couple = ForSome couple (λ p. (2 ≤ acmod) × (p.0 ≤ 15) ×
 -- fscod (A/52 5.4.1.3), acmod (5.4.2.3; 0, two programmes of one channel, is left out by this project's profile), chbwcod (5.4.3.24), the
 -- coupling and the words of a frame (Table 5.18)
 abbrev pub IsShape : ℕ → ℕ → ℕ → Option (ℕ × ℕ) → ℕ → Type 0
-IsShape fscod acmod bw couple words =
-    (fscod ≤ 2) × (1 ≤ acmod) × (acmod ≤ 7) × (bw ≤ 60) × (least_words ≤ words) × (words ≤ most_words) × IsCoupling acmod couple
+IsShape fscod acmod chbwcod couple words =
+    (fscod ≤ 2) × (1 ≤ acmod) × (acmod ≤ 7) × (chbwcod ≤ 60) × (least_words ≤ words) × (words ≤ most_words) × IsCoupling acmod couple
 
 -- the full-bandwidth channels, by acmod (A/52 Table 5.8)
 abbrev pub full_of : ℕ → ℕ
@@ -77,8 +77,8 @@ coupling_span cplbegf cplendf = record { start = coupling_start cplbegf; end = c
 
 -- the bins of a full channel
 abbrev pub full_span : ℕ → Option (ℕ × ℕ) → Span
-full_span bw None = free_span bw
-full_span bw (Some p) = coupled_span p.0
+full_span chbwcod None = free_span chbwcod
+full_span chbwcod (Some p) = coupled_span p.0
 
 -- the bins of LFE
 abbrev pub low_span : Span
@@ -91,8 +91,8 @@ next_span (Some p) = coupling_span p.0 p.1
 
 -- the bins of coded channel c
 abbrev pub span_of : ℕ → ℕ → Option (ℕ × ℕ) → ℕ → Span
-span_of acmod bw couple c =
-    if nat_lt c (full_of acmod) then full_span bw couple
+span_of acmod chbwcod couple c =
+    if nat_lt c (full_of acmod) then full_span chbwcod couple
     else if nat_eq c (full_of acmod) then next_span couple
     else low_span
 

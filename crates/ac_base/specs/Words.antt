@@ -69,9 +69,10 @@ abbrev pub word_of : List (List ℕ) → ℕ → List ℕ
 word_of assign c = slice_index_or assign c []
 
 -- each coded channel has a word of kinds that it takes, so that LFE has the codes 0 and 1 alone
-pub record IsAssignment (acmod : ℕ) (lfe : Bool) (bw : ℕ) (couple : Option (ℕ × ℕ)) (assign : List (List ℕ)) : Type 0 where
+pub record IsAssignment (acmod : ℕ) (lfe : Bool) (chbwcod : ℕ) (couple : Option (ℕ × ℕ)) (assign : List (List ℕ)) : Type 0 where
   pub words : (c : ℕ) → c < coded_of acmod lfe couple → IsWord (word_of assign c)
-  pub kinds : (c block : ℕ) → c < coded_of acmod lfe couple → block < 6 → slice_index (word_of assign c) block ≤ greatest_kind (span_of acmod bw couple c).lead
+  pub kinds : (c block : ℕ) → c < coded_of acmod lfe couple → block < 6
+      → slice_index (word_of assign c) block ≤ greatest_kind (span_of acmod chbwcod couple c).lead
 
 -- LFE's word beside a word: D15 in the blocks in which the word sends exponents
 abbrev pub low_word : List ℕ → List ℕ
@@ -88,4 +89,5 @@ pub record IsUniform (acmod : ℕ) (lfe : Bool) (couple : Option (ℕ × ℕ)) (
 -- a uniform one is an assignment: a law of these definitions
 abbrev pub UniformIsAssignment : Type 0
 UniformIsAssignment =
-    (acmod : ℕ) (lfe : Bool) (bw : ℕ) (couple : Option (ℕ × ℕ)) (assign : List (List ℕ)) → IsUniform acmod lfe couple assign → IsAssignment acmod lfe bw couple assign
+    (acmod : ℕ) (lfe : Bool) (chbwcod : ℕ) (couple : Option (ℕ × ℕ)) (assign : List (List ℕ))
+    → IsUniform acmod lfe couple assign → IsAssignment acmod lfe chbwcod couple assign

@@ -1,12 +1,13 @@
 //! From groups to exponents.
-ghost use Rattle.std.specs.Prelude.{◌≡◌, ◌≢◌, ◌↔◌, ◌⊎◌, ℕ, ◌+◌, ◌-◌, ◌*◌, ◌<◌, ◌≤◌, IsTrue, IfOk, IfErr, MatchOption, MatchResult, length, slice_index};
+ghost use Rattle.std.specs.Prelude.{◌≡◌, ◌≢◌, ◌↔◌, ◌⊎◌, ℕ, ◌+◌, ◌-◌, ◌*◌, ◌<◌, ◌≤◌};
+ghost use Rattle.std.specs.Prelude.{IsTrue, IfOk, IfErr, MatchOption, MatchResult, length, slice_index};
 ghost use Rattle.ac_base.specs.Spans.{IsIn, IsKind, is_coupling};
 ghost use Rattle.ac_base.specs.Shape.{IsSpan};
 ghost use Rattle.ac_base.specs.Spans.{groups_of};
 ghost use Rattle.ac_expo.specs.Steps.{step_of, bin_of, last_step};
 ghost use Rattle.ac_expo.specs.Greatest.{IsSpellable};
 ghost use Rattle.ac_expo.specs.Groups.{mapped_of, sum_to, spelled_exponent, IsRefused, IsFirstRefused, NoneRefused, IsExpanded};
-ghost use Rattle.ac_expo.specs.Sums.{IsBadSum, HasBadSum};
+ghost use Rattle.ac_expo.specs.Sums.{IsBadSum, HasBadSum, AreGoodSums, AreOfSums};
 
 use crate::grouping::before;
 use crate::spelled::Spelled;
@@ -109,8 +110,8 @@ fn first_refused(kind: u8, span: &Span, spelled: &Spelled, sums: &[u16; 256]) ->
 fn write(sums: &[u16; 256], kind: u8, span: &Span, out: &mut [u8; 256])
     requires kind { IsKind kind span.now }
     requires span { IsSpan span.now }
-    requires within { (k : ℕ) → IsIn span.now k → (2 * step_of kind span.now k ≤ slice_index sums.now (step_of kind span.now k)) × (slice_index sums.now (step_of kind span.now k) ≤ 2 * step_of kind span.now k + 24) }
-    ensures value { (k : ℕ) → IsIn span.now k → slice_index out.new k ≡ slice_index sums.now (step_of kind span.now k) - 2 * step_of kind span.now k }
+    requires within { AreGoodSums kind span.now sums.now }
+    ensures value { AreOfSums kind span.now sums.now out.new }
     ensures rest { (k : ℕ) → (IsIn span.now k → ⊥) → slice_index out.new k ≡ slice_index out.old k }
 {
     for k in usize::from(span.start)..usize::from(span.end) {
@@ -137,7 +138,8 @@ pub fn expand(
     requires span { IsSpan span.now }
     requires count { length spelled.now.groups ≡ groups_of kind span.now }
     requires first { spelled.now.first ≤ 15 }
-    ensures cause { MatchResult result (λ _. NoneRefused kind span.now spelled.now) (λ bad. IsFirstRefused kind span.now spelled.now bad.place) }
+    ensures cause { MatchResult result (λ _. NoneRefused kind span.now spelled.now)
+        (λ bad. IsFirstRefused kind span.now spelled.now bad.place) }
     ensures value { IfOk result (λ _. IsExpanded kind span.now spelled.now out.new) }
     ensures spellable { IfOk result (λ _. IsSpellable kind span.now out.new) }
     ensures rest { IfOk result (λ _. (k : ℕ) → (IsIn span.now k → ⊥) → slice_index out.new k ≡ slice_index out.old k) }

@@ -38,7 +38,8 @@ fn least_of_blocks(raw: &[[u8; 256]; 6], run: &Run, span: &Span) -> [u8; 256]
 fn least_of_steps(bins: &[u8; 256], kind: u8, span: &Span) -> [u8; 256]
     requires kind { IsKind kind span.now }
     requires span { IsSpan span.now }
-    ensures value { (g : ℕ) → g < 256 → slice_index result g ≡ step_least kind span.now (slice_index bins.now) (span.now.end - span.now.start) g }
+    ensures value { (g : ℕ) → g < 256 → slice_index result g
+        ≡ step_least kind span.now (slice_index bins.now) (span.now.end - span.now.start) g }
     ensures bound { (g : ℕ) → slice_index result g ≤ 24 }
 {
     let mut steps = [24; 256];
