@@ -1,0 +1,4 @@
+pub mod Powers
+pub mod Pointers
+pub mod Rounding
+pub mod Values

@@ -1,0 +1,8 @@
+//! Mantissas (A/52 7.3): the quantiser and the values of its codes, the groups in which small codes go, and what a block
+//! costs.
+#![tactic(auto)]
+
+mod quantiser;
+
+pub use quantiser::{quantise, value};
+
