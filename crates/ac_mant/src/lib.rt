@@ -2,7 +2,10 @@
 //! costs.
 #![tactic(auto)]
 
+mod ahead;
+mod coded;
+mod packing;
 mod quantiser;
 
+pub use coded::{Coded, MantFault};
 pub use quantiser::{quantise, value};
-
