@@ -5,3 +5,8 @@ pub mod Values
 pub mod Coming
 pub mod Numbers
 pub mod Costs
+pub mod Reading
+pub mod Grouping
+pub mod Whole
+pub mod Spelled
+pub mod Clauses

@@ -1,9 +1,9 @@
 -- The quantisers of each pointer, read off the tables.
-use Rattle.std.proofs.Common.{◌≡◌, ℕ, ◌+◌, ◌-◌, ◌^◌, ◌<◌, ◌≤◌, true, refl, arith, subst, sym}
+use Rattle.std.proofs.Common.{◌≡◌, ℕ, ◌+◌, ◌-◌, ◌^◌, ◌<◌, ◌≤◌, true, List, [], ◌∷◌, slice_index, refl, arith, subst, sym}
 use Rattle.std.specs.Prelude.{◌&&◌, nat_le, nat_eq}
 use Rattle.std.proofs.lemmas.Bool.Decides.{nat_tests}
 use Rattle.ac_base.proofs.Tests.{all_below-at}
-use Rattle.ac_mant.specs.Quantiser.{levels, width}
+use Rattle.ac_mant.specs.Quantiser.{levels, width, code_limit}
 
 pub levels_least : (bap : ℕ) → bap ≤ 5 → 1 ≤ levels bap
 unfolding levels
@@ -24,3 +24,13 @@ width_least bap least most =
 pub width_most : (bap : ℕ) → bap ≤ 15 → width bap ≤ 16
 unfolding width
 width_most bap most = let test = all_below-at 16 (λ k. nat_le (width k) 16) refl bap (omega arith) in grind (arith, nat_tests, test)
+
+-- the limits of codes, listed
+abbrev pub limits : List ℕ
+limits = 1 ∷ 3 ∷ 5 ∷ 7 ∷ 11 ∷ 15 ∷ 32 ∷ 64 ∷ 128 ∷ 256 ∷ 512 ∷ 1024 ∷ 2048 ∷ 4096 ∷ 16384 ∷ 65536 ∷ []
+
+pub limit_listed : (bap : ℕ) → bap ≤ 15 → slice_index limits bap ≡ code_limit bap
+unfolding levels width
+limit_listed bap most =
+    let test = all_below-at 16 (λ k. nat_eq (slice_index limits k) (code_limit k)) refl bap (omega arith) in
+    grind (arith, nat_tests, test)

@@ -1,7 +1,6 @@
 -- Mantissas on the wire (A/52 7.3.5). Those of pointers 1 and 2 go by threes and those of pointer 4 by twos, as one number that stands
 -- where the first of them stands; groups run over the channels of a block and end with it. Each other mantissa has a number of its own.
 use Rattle.std.specs.Prelude.{◌≡◌, ◌⊎◌, ℕ, ◌+◌, ◌-◌, ◌*◌, ◌^◌, ◌<◌, ◌≤◌, ◌==◌, if◌then◌else◌, Bool, List, [], ◌∷◌, ◌++◌, length, slice_index}
-use Rattle.std.specs.List.{All}
 use Rattle.ac_base.specs.Counts.{code_width}
 use Rattle.ac_bits.specs.Bits.{bits}
 use Rattle.ac_mant.specs.declared.ahead.Ahead.{Ahead}
@@ -90,9 +89,9 @@ abbrev pub zeros : Fill
 zeros = record { one = 0 ∷ 0 ∷ []; two = 0 ∷ 0 ∷ []; four = 0 ∷ [] }
 
 pub record IsFill (f : Fill) : Type 0 where
-  pub one : (length f.one ≡ 2) × All (λ code. code < 3) f.one
-  pub two : (length f.two ≡ 2) × All (λ code. code < 5) f.two
-  pub four : (length f.four ≡ 1) × All (λ code. code < 11) f.four
+  pub one : (i : ℕ) → slice_index f.one i < 3
+  pub two : (i : ℕ) → slice_index f.two i < 5
+  pub four : (i : ℕ) → slice_index f.four i < 11
 
 -- a code and the two, or the one, behind it as one number
 abbrev pub triple : ℕ → ℕ → List ℕ → ℕ

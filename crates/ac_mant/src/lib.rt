@@ -4,8 +4,14 @@
 
 mod ahead;
 mod coded;
+mod counts;
+mod held;
 mod packing;
 mod quantiser;
+mod unpacking;
 
+pub use counts::{Counts, cost_laws, exact, sixths};
 pub use coded::{Coded, MantFault};
+pub use packing::pack_block;
 pub use quantiser::{quantise, value};
+pub use unpacking::unpack_block;
