@@ -10,8 +10,9 @@ mod packing;
 mod quantiser;
 mod unpacking;
 
-pub use counts::{Counts, cost_laws, exact, sixths};
 pub use coded::{Coded, MantFault};
+pub use counts::{Counts, cost_laws, exact, sixths};
 pub use packing::pack_block;
 pub use quantiser::{quantise, value};
 pub use unpacking::unpack_block;
+
