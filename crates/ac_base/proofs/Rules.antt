@@ -1,10 +1,14 @@
 -- The root is the greatest, and the bounds of the recurrence.
-use Rattle.std.proofs.Common.{◌≡◌, ◌≢◌, ℕ, zero, suc, ◌+◌, ◌-◌, ◌*◌, ◌/◌, ◌^◌, ◌<◌, ◌≤◌, min, Bool, true, false, leb, cond, refl, arith, add-one, inl, inr, ℤ, pos, List, length, below_more, get_or-set_other, get_or-set_same}
+use Rattle.std.proofs.Common.{◌≡◌, ◌≢◌, ℕ, zero, suc, ◌+◌, ◌-◌, ◌*◌, ◌/◌, ◌^◌, ◌<◌, ◌≤◌, min, Bool, true, false, leb, cond, refl, arith, add-one, inl, inr, ℤ, pos, List, length, slice_index_or, below_more, get_or-set_other, get_or-set_same}
 use Rattle.std.proofs.Math.ListN.{set}
 use Rattle.std.proofs.lemmas.Bool.{leb-true, leb-false, cases_lt}
 use Rattle.std.proofs.lemmas.Nat.{mul-le}
 use Rattle.std.proofs.Math.Nat.{pow-suc}
-use Rattle.ac_base.specs.Quarter.{root, half, angle, pair_at, cosine_of, Holds}
+use Rattle.ac_base.specs.Quarter.{root, half, angle, pair_at, cosine_of}
+
+-- the first n entries of the list are those of the table
+abbrev pub Holds : ℕ → List ℤ → Type 0
+Holds n cs = (j : ℕ) → j < n → slice_index_or cs j (pos 0) ≡ pos (cosine_of j)
 
 abbrev IsRoot : ℕ → ℕ → Type 0
 IsRoot r x = (r * r ≤ x) × (x < (r + 1) * (r + 1))

@@ -3,9 +3,9 @@ use Rattle.std.proofs.Common.{◌≡◌, ℕ, zero, suc, ◌+◌, ◌-◌, ◌*�
 use Rattle.std.specs.Prelude.{◌&&◌}
 use Rattle.std.proofs.lemmas.Bool.{eqb-true, cases_lt}
 use Rattle.std.proofs.lemmas.Bool.Decides.{nat_tests}
-use Rattle.ac_base.specs.Quarter.{pair_at, cosine_of, angle, Holds}
+use Rattle.ac_base.specs.Quarter.{pair_at, cosine_of, angle}
 use Rattle.ac_base.specs.Cosine.{quarter_of, IsQuarter}
-use Rattle.ac_base.proofs.Rules.{cosine_is, pair_more, pair_next, pair_zero, pair_one}
+use Rattle.ac_base.proofs.Rules.{Holds, cosine_is, pair_more, pair_next, pair_zero, pair_one}
 use Rattle.ac_base.proofs.Waves.{quarter_last}
 
 both : (a b : Bool) → (a && b) ≡ true → (a ≡ true) × (b ≡ true)

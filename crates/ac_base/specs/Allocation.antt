@@ -1,6 +1,13 @@
 -- The tables of the bit allocation, as values with their counts (A/52 7.2.3).
 use Rattle.std.specs.Prelude.{ℕ, List, [], ◌∷◌, ◌++◌, replicate, if◌then◌else◌, ◌==◌}
 
+-- how many bands there are (A/52 Table 7.12), and how many bins they have
+abbrev pub bands : ℕ
+bands = 50
+
+abbrev pub bins : ℕ
+bins = 253
+
 -- each value as often as its count says: how the lists below are written
 abbrev pub runs_of : List (ℕ × ℕ) → List ℕ
 runs_of [] = []

@@ -2,6 +2,10 @@
 use Rattle.std.specs.Prelude.{◌≡◌, ◌≤◌, ◌==◌, ℕ, Bool, IsTrue, List, [], ◌∷◌, slice_index}
 use Rattle.std.specs.List.{list_any}
 
+-- the code of the greatest rate
+abbrev pub last_rate_code : ℕ
+last_rate_code = 18
+
 -- in kbit/s, by frmsizecod / 2 (A/52 Table 5.18)
 abbrev pub rates : List ℕ
 rates = 32 ∷ 40 ∷ 48 ∷ 56 ∷ 64 ∷ 80 ∷ 96 ∷ 112 ∷ 128 ∷ 160 ∷ 192 ∷ 224 ∷ 256 ∷ 320 ∷ 384 ∷ 448 ∷ 512 ∷ 576 ∷ 640 ∷ []
@@ -15,5 +19,5 @@ IsRate rate = IsTrue (is_rate rate)
 
 -- the code of a rate, which is frmsizecod / 2 (A/52 5.4.1.4)
 pub record HasCode (rate code : ℕ) : Type 0 where
-  pub small : code ≤ 18
+  pub small : code ≤ last_rate_code
   pub entry : slice_index rates code ≡ rate

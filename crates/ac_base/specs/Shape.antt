@@ -2,6 +2,7 @@
 -- A coupling is a pair of cplbegf and cplendf.
 use Rattle.std.specs.Prelude.{ℕ, ◌≡◌, ◌+◌, ◌-◌, ◌*◌, ◌≤◌, Bool, ◌||◌, nat_lt, nat_le, nat_eq, is_some, if◌then◌else◌, Option, Some, None, [], ◌∷◌, slice_index}
 use Rattle.std.specs.Option.{ForSome}
+use Rattle.ac_base.specs.Sizes.{least_words, most_words}
 use Rattle.ac_base.specs.declared.spans.Span.{Span}
 use Rattle.ac_base.specs.declared.spans.Lead.{Lead}
 use Rattle.ac_base.specs.declared.spans.Lead.TheVariants.{Free, Coupled, Coupling, Low}
@@ -13,8 +14,8 @@ IsCoupling acmod couple = ForSome couple (λ p. (2 ≤ acmod) × (p.0 ≤ 15) ×
 -- fscod (A/52 5.4.1.3), acmod (5.4.2.3; 0, two programmes of one channel, is left out by this project's profile), chbwcod (5.4.3.24), the
 -- coupling and the words of a frame (Table 5.18)
 abbrev pub IsShape : ℕ → ℕ → ℕ → Option (ℕ × ℕ) → ℕ → Type 0
-IsShape fscod acmod bw couple words =
-    (fscod ≤ 2) × (1 ≤ acmod) × (acmod ≤ 7) × (bw ≤ 60) × (64 ≤ words) × (words ≤ 1920) × IsCoupling acmod couple
+IsShape fscod acmod chbwcod couple words =
+    (fscod ≤ 2) × (1 ≤ acmod) × (acmod ≤ 7) × (chbwcod ≤ 60) × (least_words ≤ words) × (words ≤ most_words) × IsCoupling acmod couple
 
 -- the full-bandwidth channels, by acmod (A/52 Table 5.8)
 abbrev pub full_of : ℕ → ℕ
@@ -62,10 +63,22 @@ coupling_end cplendf = 37 + 12 * (cplendf + 3)
 abbrev pub end_of : ℕ → ℕ
 end_of chbwcod = 37 + 3 * (chbwcod + 12)
 
+-- the bins of a full channel that isn't coupled
+abbrev pub free_span : ℕ → Span
+free_span chbwcod = record { start = 0; end = end_of chbwcod; lead = Free }
+
+-- the bins of a coupled channel
+abbrev pub coupled_span : ℕ → Span
+coupled_span cplbegf = record { start = 0; end = coupling_start cplbegf; lead = Coupled }
+
+-- the bins of the coupling channel
+abbrev pub coupling_span : ℕ → ℕ → Span
+coupling_span cplbegf cplendf = record { start = coupling_start cplbegf; end = coupling_end cplendf; lead = Coupling }
+
 -- the bins of a full channel
 abbrev pub full_span : ℕ → Option (ℕ × ℕ) → Span
-full_span bw None = record { start = 0; end = end_of bw; lead = Free }
-full_span bw (Some p) = record { start = 0; end = coupling_start p.0; lead = Coupled }
+full_span chbwcod None = free_span chbwcod
+full_span chbwcod (Some p) = coupled_span p.0
 
 -- the bins of LFE
 abbrev pub low_span : Span
@@ -74,12 +87,12 @@ low_span = record { start = 0; end = 7; lead = Low }
 -- the bins of the channel behind the full ones
 abbrev pub next_span : Option (ℕ × ℕ) → Span
 next_span None = low_span
-next_span (Some p) = record { start = coupling_start p.0; end = coupling_end p.1; lead = Coupling }
+next_span (Some p) = coupling_span p.0 p.1
 
 -- the bins of coded channel c
 abbrev pub span_of : ℕ → ℕ → Option (ℕ × ℕ) → ℕ → Span
-span_of acmod bw couple c =
-    if nat_lt c (full_of acmod) then full_span bw couple
+span_of acmod chbwcod couple c =
+    if nat_lt c (full_of acmod) then full_span chbwcod couple
     else if nat_eq c (full_of acmod) then next_span couple
     else low_span
 

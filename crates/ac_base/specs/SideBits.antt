@@ -119,7 +119,8 @@ unfoldable pub side_total : ℕ → Bool → Option (ℕ × ℕ) → ℕ
 side_total acmod lfe couple =
     sum (head_rows acmod) + sum (first_block_rows acmod lfe couple) + 5 * sum (later_block_rows acmod lfe couple) + sum tail_rows
 
--- the sums of the rows in closed form, this project's own; k, s and l are 1 where there is a coupling, where there are two channels, and where there is LFE
+-- the sums of the rows in closed form, this project's own; k, s and l are 1 where there is a coupling, where there are two channels, and
+-- where there is LFE
 abbrev pub head_formula : ℕ → ℕ
 head_formula acmod = 65 + 2 * count_of (has_center acmod) + 2 * count_of (has_surround acmod) + 2 * count_of (is_stereo acmod)
 

@@ -1,6 +1,12 @@
 //! The tables of the bit allocation, read by index (A/52 7.2.3).
 ghost use Rattle.std.specs.Prelude.{◌≡◌, ◌<◌, ◌≤◌, ◌+◌, ◌*◌, ℕ, slice_index};
-ghost use Rattle.ac_base.specs.Allocation.{latab_list, bndtab_list, masktab_list, hth_list, hth_48, hth_44, hth_32, baptab_list};
+ghost use Rattle.ac_base.specs.Allocation.{bands, bins, latab_list, bndtab_list, masktab_list, hth_list, hth_48, hth_44, hth_32, baptab_list};
+
+/// The bands of the bit allocation (A/52 Table 7.12).
+pub const BANDS: usize = 50;
+
+/// The bins that the bands have: no channel has more.
+pub const BINS: usize = 253;
 
 /// What a log-addition adds to the greater level (A/52 Table 7.14).
 static LATAB: [u8; 256] = [
@@ -17,14 +23,14 @@ static LATAB: [u8; 256] = [
 ];
 
 /// The first bin of each band, and the end of the last (A/52 Table 7.12).
-static BNDTAB: [u8; 51] = [
+static BNDTAB: [u8; BANDS + 1] = [
     0, 1, 2, 3, 4, 5, 6, 7, 8, 9, 10, 11, 12, 13, 14, 15, 16, 17, 18, 19, 20, 21, 22, 23, 24, 25,
     26, 27, 28, 31, 34, 37, 40, 43, 46, 49, 55, 61, 67, 73, 79, 85, 97, 109, 121, 133, 157, 181,
     205, 229, 253,
 ];
 
 /// The band of each bin (A/52 Table 7.13).
-static MASKTAB: [u8; 253] = [
+static MASKTAB: [u8; BINS] = [
     0, 1, 2, 3, 4, 5, 6, 7, 8, 9, 10, 11, 12, 13, 14, 15, 16, 17, 18, 19, 20, 21, 22, 23, 24, 25,
     26, 27, 28, 28, 28, 29, 29, 29, 30, 30, 30, 31, 31, 31, 32, 32, 32, 33, 33, 33, 34, 34, 34, 35,
     35, 35, 35, 35, 35, 36, 36, 36, 36, 36, 36, 37, 37, 37, 37, 37, 37, 38, 38, 38, 38, 38, 38, 39,
@@ -39,21 +45,21 @@ static MASKTAB: [u8; 253] = [
 ];
 
 /// The hearing thresholds at 48 kHz (A/52 Table 7.15).
-static HTH_48: [u16; 50] = [
+static HTH_48: [u16; BANDS] = [
     1232, 1232, 1088, 1024, 992, 960, 944, 944, 928, 928, 928, 928, 928, 912, 912, 912, 896, 896,
     880, 880, 864, 864, 848, 848, 832, 832, 816, 800, 784, 768, 752, 752, 752, 752, 768, 784, 832,
     912, 992, 1056, 1120, 1168, 1184, 1120, 1088, 1088, 1312, 2048, 2112, 2112,
 ];
 
 /// The hearing thresholds at 44.1 kHz.
-static HTH_44: [u16; 50] = [
+static HTH_44: [u16; BANDS] = [
     1264, 1264, 1120, 1040, 992, 976, 960, 944, 944, 928, 928, 928, 928, 928, 912, 912, 912, 896,
     896, 896, 880, 880, 864, 864, 848, 848, 832, 832, 800, 784, 768, 752, 752, 752, 752, 768, 800,
     848, 912, 992, 1056, 1104, 1184, 1168, 1120, 1088, 1152, 1584, 2112, 2112,
 ];
 
 /// The hearing thresholds at 32 kHz.
-static HTH_32: [u16; 50] = [
+static HTH_32: [u16; BANDS] = [
     1408, 1408, 1200, 1104, 1056, 1008, 992, 976, 960, 944, 944, 944, 928, 928, 928, 928, 928, 928,
     928, 928, 912, 912, 912, 912, 896, 896, 896, 880, 864, 848, 832, 816, 800, 784, 768, 752, 752,
     752, 768, 784, 816, 848, 960, 1040, 1136, 1184, 1120, 1088, 1104, 1248,
@@ -83,24 +89,24 @@ pub fn latab(i: u8) -> u8
 }
 
 fn band_start_entry(b: u8) -> u8
-    requires { b ≤ 50 }
+    requires { b ≤ bands }
     ensures { result ≡ slice_index bndtab_list b }
 {
     BNDTAB[b as usize]
 }
 
-/// The first bin of a band; at 50 the bin behind the last band (bndtab, A/52 Table 7.12).
+/// The first bin of a band; at `BANDS` the bin behind the last band (bndtab, A/52 Table 7.12).
 #[inline]
 pub fn band_start(b: u8) -> u8
-    requires { b ≤ 50 }
+    requires { b ≤ bands }
     ensures value { result ≡ slice_index bndtab_list b }
-    ensures bound { result ≤ 253 }
+    ensures bound { result ≤ bins }
 {
     band_start_entry(b)
 }
 
 fn band_of_entry(bin: u8) -> u8
-    requires { bin ≤ 252 }
+    requires { bin < bins }
     ensures { result ≡ slice_index masktab_list bin }
 {
     MASKTAB[bin as usize]
@@ -109,9 +115,9 @@ fn band_of_entry(bin: u8) -> u8
 /// The band of a bin (masktab, A/52 Table 7.13).
 #[inline]
 pub fn band_of(bin: u8) -> u8
-    requires { bin ≤ 252 }
+    requires { bin < bins }
     ensures value { result ≡ slice_index masktab_list bin }
-    ensures bound { result ≤ 49 }
+    ensures bound { result < bands }
     ensures starts { slice_index bndtab_list result ≤ bin }
     ensures ends { bin < slice_index bndtab_list (result + 1) }
 {
@@ -120,7 +126,7 @@ pub fn band_of(bin: u8) -> u8
 
 fn hearing_entry(fscod: u8, band: u8) -> u16
     requires code { fscod ≤ 2 }
-    requires band { band ≤ 49 }
+    requires band { band < bands }
     ensures { result ≡ slice_index (hth_list fscod) band }
 {
     match fscod {
@@ -134,7 +140,7 @@ fn hearing_entry(fscod: u8, band: u8) -> u16
 #[inline]
 pub fn hearing(fscod: u8, band: u8) -> u16
     requires code { fscod ≤ 2 }
-    requires band { band ≤ 49 }
+    requires band { band < bands }
     ensures value { result ≡ slice_index (hth_list fscod) band }
     ensures bound { result ≤ 0x840 }
 {

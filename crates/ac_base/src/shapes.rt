@@ -1,8 +1,11 @@
 //! The shape of a frame: its rate of sampling, channels, bandwidth, coupling and size.
 ghost use Rattle.std.specs.Prelude.{◌≡◌, ◌<◌, ◌≤◌, ◌+◌, ◌*◌, ◌↔◌, ℕ, Option, Some, None, IsSome, IfSome};
 ghost use Rattle.std.specs.Option.{ForSome};
+ghost use Rattle.ac_base.specs.Allocation.{bins};
+ghost use Rattle.ac_base.specs.Sizes.{least_words, most_words};
 ghost use Rattle.ac_base.specs.Shape.{IsShape, IsCoupling, full_of, coded_of, span_of, IsSpan};
 
+use crate::sizes::{LEAST_WORDS, MOST_WORDS};
 use crate::spans::{Span, coupled_span, coupling_span, free_span, low_span};
 
 /// The full-bandwidth channels by acmod (A/52 Table 5.8).
@@ -35,8 +38,8 @@ pub struct Shape {
     pub ghost channels: { acmod ≤ 7 },
     pub ghost bandwidth: { bw ≤ 60 },
     pub ghost coupling: { IsCoupling acmod couple },
-    pub ghost least_size: { 64 ≤ words },
-    pub ghost most_size: { words ≤ 1920 },
+    pub ghost least_size: { least_words ≤ words },
+    pub ghost most_size: { words ≤ most_words },
 }
 
 impl Shape {
@@ -50,7 +53,7 @@ impl Shape {
         couple: Option<(u8, u8)>,
         words: u16,
     ) -> Option<Shape>
-        ensures made { IsSome result ↔ IsShape fscod acmod bw couple words }
+        ensures cause { IsSome result ↔ IsShape fscod acmod bw couple words }
         ensures sampling { IfSome result (λ s. s.fscod ≡ fscod) }
         ensures channels { IfSome result (λ s. s.acmod ≡ acmod) }
         ensures low { IfSome result (λ s. s.lfe ≡ lfe) }
@@ -58,7 +61,13 @@ impl Shape {
         ensures coupling { IfSome result (λ s. s.couple ≡ couple) }
         ensures size { IfSome result (λ s. s.words ≡ words) }
     {
-        if fscod > 2 || acmod < 1 || acmod > 7 || bw > 60 || words < 64 || words > 1920 {
+        if fscod > 2
+            || acmod < 1
+            || acmod > 7
+            || bw > 60
+            || words < LEAST_WORDS
+            || words > MOST_WORDS
+        {
             return None;
         }
         if let Some((begin, end)) = couple
@@ -79,7 +88,7 @@ impl Shape {
     /// The number of full-bandwidth channels.
     pub fn full(&self) -> u8
         ensures value { result ≡ full_of self.now.acmod }
-        ensures some { 1 ≤ result }
+        ensures least { 1 ≤ result }
         ensures most { result ≤ 5 }
     {
         full_channels(self.acmod)
@@ -89,7 +98,7 @@ impl Shape {
     /// coupling channel if there is one, then LFE if there is one.
     pub fn coded(&self) -> u8
         ensures value { result ≡ coded_of self.now.acmod self.now.lfe self.now.couple }
-        ensures most { result ≤ 7 }
+        ensures bound { result ≤ 7 }
     {
         self.full() + u8::from(self.couple.is_some()) + u8::from(self.lfe)
     }
@@ -100,7 +109,7 @@ impl Shape {
         ensures value { result ≡ span_of self.now.acmod self.now.bw self.now.couple c }
         ensures coded { IsSpan result }
         ensures some { result.start < result.end }
-        ensures most { result.end ≤ 253 }
+        ensures bound { result.end ≤ bins }
     {
         let full = self.full();
         match self.couple {

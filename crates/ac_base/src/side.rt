@@ -1,13 +1,12 @@
 //! The side bits of a frame: the rows of its syntax other than exponents and mantissas.
 ghost use Rattle.std.specs.Prelude.{◌≡◌, ◌≤◌, ◌<◌, ◌+◌, ◌*◌, ℕ, Bool, Option, sum};
 ghost use Rattle.ac_base.specs.Shape.{IsCoupling, subbands, rematrix_bands, is_stereo};
+ghost use Rattle.ac_base.specs.Fit.{side_of};
 ghost use Rattle.ac_base.specs.SideBits.{head_rows, first_block_rows, later_block_rows, side_front, side_total, when, head_formula, first_block_formula, later_block_formula};
 
 use crate::shapes::Shape;
-use crate::sizes::Parts;
-
-/// auxdatae, crcrsv and crc2.
-const TAIL: u32 = 18;
+use crate::sizes::{Parts, TAIL_BITS};
+use crate::spans::{coupling_subbands, rematrix_bands};
 
 /// syncinfo and bsi (A/52 5.3.1, 5.3.2).
 fn head_bits(shape: &Shape) -> u32
@@ -20,12 +19,12 @@ fn head_bits(shape: &Shape) -> u32
     }
 }
 
-/// The subbands of a coupling, from cplbegf to cplendf + 2 (A/52 5.4.3.12).
+/// The subbands of a coupling, or 0.
 fn subband_count(shape: &Shape) -> u32
     ensures { result ≡ subbands shape.now.couple }
 {
     match shape.couple {
-        Some((begin, end)) => 3 + u32::from(end) - u32::from(begin),
+        Some((begin, end)) => u32::from(coupling_subbands(begin, end)),
         None => 0,
     }
 }
@@ -34,11 +33,10 @@ fn subband_count(shape: &Shape) -> u32
 fn rematrix_bits(shape: &Shape) -> u32
     ensures { result ≡ when (is_stereo shape.now.acmod) (1 + rematrix_bands shape.now.couple) }
 {
-    match shape.couple {
-        _ if shape.acmod != 2 => 0,
-        Some((0, _)) => 1 + 2,
-        Some((1 | 2, _)) => 1 + 3,
-        _ => 1 + 4,
+    if shape.acmod == 2 {
+        1 + u32::from(rematrix_bands(shape.couple))
+    } else {
+        0
     }
 }
 
@@ -73,15 +71,13 @@ fn later_block_bits(shape: &Shape) -> u32
 /// (A/52 5.3): the head with block 0 and one later block, the whole frame, and nothing.
 #[tactic(auto, unfolding(crate::specs::SideBits::side_front, crate::specs::SideBits::side_total))]
 pub fn side_bits(shape: &Shape) -> Parts
-    ensures front { result.front ≡ side_front shape.now.acmod shape.now.lfe shape.now.couple }
-    ensures total { result.total ≡ side_total shape.now.acmod shape.now.lfe shape.now.couple }
-    ensures last { result.last ≡ 0 }
+    ensures value { result ≡ side_of shape.now.acmod shape.now.lfe shape.now.couple }
 {
     let start = head_bits(shape) + first_block_bits(shape);
     let later = later_block_bits(shape);
     Parts {
         front: start + later,
-        total: start + 5 * later + TAIL,
+        total: start + 5 * later + TAIL_BITS,
         last: 0,
     }
 }

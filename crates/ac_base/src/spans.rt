@@ -1,7 +1,6 @@
-//! The bins of a coded channel.
-ghost use Rattle.std.specs.Prelude.{◌≡◌, ◌<◌, ◌≤◌, ◌+◌, ◌*◌, ℕ};
-ghost use Rattle.ac_base.specs.Shape.{coupling_start, coupling_end, end_of};
-ghost use Rattle.ac_base.specs.declared.spans.Lead.TheVariants.{Free, Coupled, Coupling, Low};
+//! The bins of a coded channel, and the bands of a coupling and of rematrixing.
+ghost use Rattle.std.specs.Prelude.{◌≡◌, ◌≤◌, ◌+◌, Some};
+ghost use Rattle.ac_base.specs.Shape.{free_span, coupled_span, coupling_span, low_span, subbands, rematrix_bands, IsSpan};
 
 /// What a coded channel is.
 #[derive(Clone, Copy, Debug, PartialEq, Eq)]
@@ -27,10 +26,11 @@ pub struct Span {
     pub lead: Lead,
 }
 
-/// The bins of a full-bandwidth channel that isn't coupled, by chbwcod.
-pub(crate) fn free_span(chbwcod: u8) -> Span
+/// The bins of a full-bandwidth channel that isn't coupled, by chbwcod, at most 60 (A/52 5.4.3.24, 7.1.3).
+pub fn free_span(chbwcod: u8) -> Span
     requires { chbwcod ≤ 60 }
-    ensures { result ≡ record { start = 0; end = end_of chbwcod; lead = Free } }
+    ensures value { result ≡ free_span chbwcod }
+    ensures coded { IsSpan result }
 {
     Span {
         start: 0,
@@ -39,10 +39,11 @@ pub(crate) fn free_span(chbwcod: u8) -> Span
     }
 }
 
-/// The bins of a coupled channel, by cplbegf.
-pub(crate) fn coupled_span(cplbegf: u8) -> Span
+/// The bins of a coupled channel, by cplbegf, at most 15 (A/52 5.4.3.11, 7.1.3).
+pub fn coupled_span(cplbegf: u8) -> Span
     requires { cplbegf ≤ 15 }
-    ensures { result ≡ record { start = 0; end = coupling_start cplbegf; lead = Coupled } }
+    ensures value { result ≡ coupled_span cplbegf }
+    ensures coded { IsSpan result }
 {
     Span {
         start: 0,
@@ -51,11 +52,14 @@ pub(crate) fn coupled_span(cplbegf: u8) -> Span
     }
 }
 
-/// The bins of the coupling channel, by cplbegf and cplendf.
-pub(crate) fn coupling_span(cplbegf: u8, cplendf: u8) -> Span
+/// The bins of the coupling channel, by cplbegf and cplendf, each at most 15, that give at least one subband
+/// (A/52 5.4.3.11, 5.4.3.12, 7.1.3).
+pub fn coupling_span(cplbegf: u8, cplendf: u8) -> Span
     requires begin { cplbegf ≤ 15 }
     requires end { cplendf ≤ 15 }
-    ensures { result ≡ record { start = coupling_start cplbegf; end = coupling_end cplendf; lead = Coupling } }
+    requires some { cplbegf ≤ cplendf + 2 }
+    ensures value { result ≡ coupling_span cplbegf cplendf }
+    ensures coded { IsSpan result }
 {
     Span {
         start: 37 + 12 * cplbegf,
@@ -64,9 +68,10 @@ pub(crate) fn coupling_span(cplbegf: u8, cplendf: u8) -> Span
     }
 }
 
-/// The bins of LFE.
-pub(crate) fn low_span() -> Span
-    ensures { result ≡ record { start = 0; end = 7; lead = Low } }
+/// The bins of LFE (A/52 7.1.3).
+pub fn low_span() -> Span
+    ensures value { result ≡ low_span }
+    ensures coded { IsSpan result }
 {
     Span {
         start: 0,
@@ -74,3 +79,31 @@ pub(crate) fn low_span() -> Span
         lead: Lead::Low,
     }
 }
+
+/// The subbands of a coupling, from 1 to 18: ncplsubnd (A/52 5.4.3.12). Each of cplbegf and cplendf is at most 15.
+pub fn coupling_subbands(cplbegf: u8, cplendf: u8) -> u8
+    requires begin { cplbegf ≤ 15 }
+    requires end { cplendf ≤ 15 }
+    requires some { cplbegf ≤ cplendf + 2 }
+    ensures value { result ≡ subbands (Some (cplbegf, cplendf)) }
+    ensures least { 1 ≤ result }
+    ensures most { result ≤ 18 }
+{
+    3 + cplendf - cplbegf
+}
+
+/// The rematrixing bands of two channels, by cplbegf and cplendf where they are coupled: nrematbd (A/52 5.4.3.19, 7.5.2).
+pub fn rematrix_bands(couple: Option<(u8, u8)>) -> u8
+    ensures value { result ≡ rematrix_bands couple }
+    ensures least { 2 ≤ result }
+    ensures most { result ≤ 4 }
+{
+    match couple {
+        Some((0, _)) => 2,
+        Some((1 | 2, _)) => 3,
+        _ => 4,
+    }
+}
+
+#[cfg(test)]
+mod tests;

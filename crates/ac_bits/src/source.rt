@@ -24,7 +24,8 @@ impl<'a> Model for BitSource<'a> {
 
     ghost view = { λ s. take s.left (bits s.held s.have ++ bits_of (drop s.at s.bytes.now)) };
 
-    ghost invariant = { λ s. (s.at ≤ length s.bytes.now) × (s.have < 8) × (s.held < 2 ^ s.have) × (s.left ≤ s.have + 8 * (length s.bytes.now - s.at)) };
+    ghost invariant = { λ s. (s.at ≤ length s.bytes.now) × (s.have < 8) × (s.held < 2 ^ s.have)
+        × (s.left ≤ s.have + 8 * (length s.bytes.now - s.at)) };
 }
 
 /// Takes bytes in until `width` bits are held.

@@ -26,7 +26,8 @@ fn numbers_of_each_width_are_joined(rt: HostRuntime) {
         sink.put(front(0xa5c3_96e7, width), width);
     }
     assert!(rt; sink.len() == 528);
-    let mut out = [0; 3840];
+    let mut out = [0; FRAME_BYTES];
+    bits_laws();
     let count = sink.bytes(&mut out);
     assert_eq!(rt; count, 66);
     assert_eq!(rt; &out[..66], &BYTES[..]);

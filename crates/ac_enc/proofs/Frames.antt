@@ -9,8 +9,8 @@ use Rattle.ac_base.proofs.SpanBounds.{span_end}
 use Rattle.ac_base.proofs.Tests.{all_below-at}
 use Rattle.ac_bits.specs.Bits.{bits_of}
 use Rattle.ac_crc.specs.Remainder.{IsRemainder}
-use Rattle.ac_expo.specs.Spans.{IsKind}
-use Rattle.ac_expo.specs.Steps.{groups_of}
+use Rattle.ac_base.specs.Spans.{IsKind}
+use Rattle.ac_base.specs.Spans.{groups_of}
 use Rattle.ac_expo.specs.Spelling.{Spelling}
 use Rattle.ac_expo.proofs.Agreeing.{RawsAgree, same_exps, same_spelling}
 use Rattle.ac_expo.proofs.Spellings.{groups_long}

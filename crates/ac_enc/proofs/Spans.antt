@@ -1,6 +1,6 @@
 -- The groups of the one channel.
 use Rattle.std.proofs.Common.{◌≡◌, ℕ, refl}
-use Rattle.ac_expo.specs.Steps.{groups_of}
+use Rattle.ac_base.specs.Spans.{groups_of}
 use Rattle.ac_frame.specs.Plain.{d45_groups, end_bin}
 use Rattle.ac_enc.specs.Frame.{bandwidth, mono_span}
 

@@ -4,7 +4,7 @@ ghost use Rattle.ac_base.specs.Rates.{IsRate, HasCode};
 ghost use Rattle.ac_base.specs.Shape.{IsSpan};
 ghost use Rattle.ac_base.specs.Sigma.{Within};
 ghost use Rattle.ac_base.specs.Sizes.{frame_words_of};
-ghost use Rattle.ac_expo.specs.Steps.{groups_of};
+ghost use Rattle.ac_base.specs.Spans.{groups_of};
 ghost use Rattle.ac_enc.specs.Frame.{bandwidth, mono_span, size_code, IsSpelled, IsFrame, joined};
 
 use crate::raw::raw_blocks;

@@ -7,8 +7,9 @@ use Rattle.ac_base.specs.declared.spans.Lead.TheVariants.{Free, Coupled, Couplin
 use Rattle.ac_base.specs.declared.spans.Span.{Span}
 use Rattle.ac_base.specs.Shape.{IsSpan, IsSpanOf}
 use Rattle.ac_base.proofs.SpanBounds.{span_some}
-use Rattle.ac_expo.specs.Spans.{IsIn, IsKind, is_coupling}
-use Rattle.ac_expo.specs.Steps.{step_of, bin_of, groups_of}
+use Rattle.ac_base.specs.Spans.{IsIn, IsKind, is_coupling}
+use Rattle.ac_base.specs.Spans.{groups_of}
+use Rattle.ac_expo.specs.Steps.{step_of, bin_of}
 use Rattle.ac_expo.specs.Greatest.{IsUnder, IsGreatest, IsByFormula}
 use Rattle.ac_expo.specs.Spelling.{Spelling}
 use Rattle.ac_expo.specs.Groups.{first_of, reference, past, at_step, mapped, group_of, groups_below, spelled_of}

@@ -5,7 +5,7 @@ use Rattle.std.proofs.lemmas.Bool.{cases_eq}
 use Rattle.std.proofs.lemmas.List.{get_or-replicate}
 use Rattle.ac_base.specs.declared.shapes.Shape.{Shape}
 use Rattle.ac_base.specs.declared.spans.Span.{Span}
-use Rattle.ac_expo.specs.Spans.{IsIn}
+use Rattle.ac_base.specs.Spans.{IsIn}
 use Rattle.ac_expo.specs.Raw.{channels, channel_span, AreRawInBlocks, KeepsOutside, KeepsElsewhere, AreSilentElsewhere}
 
 -- a channel's blocks are written, and keep what stands outside its span

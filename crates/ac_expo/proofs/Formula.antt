@@ -2,7 +2,7 @@
 use Rattle.std.proofs.Common.{◌≡◌, ℕ, suc, zero, ◌+◌, ◌*◌, ◌<◌, ◌≤◌, ◌-◌, min, Bool, true, false, List, [], slice_index, slice_index_or, refl, sym, ap, ◌∙◌, inl, inr, arith, subst}
 use Rattle.std.proofs.lemmas.Bool.{cases_eq, cases_lt}
 use Rattle.ac_base.specs.declared.spans.Span.{Span}
-use Rattle.ac_expo.specs.Spans.{IsIn, is_coupling}
+use Rattle.ac_base.specs.Spans.{IsIn, is_coupling}
 use Rattle.ac_expo.specs.Steps.{step_of, last_step}
 use Rattle.ac_expo.specs.Least.{distance, least, spread}
 use Rattle.ac_expo.specs.Greatest.{IsSpellable, IsUnder, FormulaIsGreatest, GreatestIsOne, GreatestExists, bin_least, step_least, raw_least, capped, step_exponent, exponent_of}

@@ -6,10 +6,11 @@ use Rattle.std.proofs.lemmas.Bool.{cases_eq, cases_lt, lt-ltb, le-ltb, ne_eqb}
 use Rattle.ac_base.specs.declared.spans.Lead.{Lead}
 use Rattle.ac_base.specs.declared.spans.Lead.TheVariants.{Free, Coupled, Coupling, Low}
 use Rattle.ac_base.specs.declared.spans.Span.{Span}
-use Rattle.ac_expo.specs.Spans.{IsIn, IsKind, is_coupling}
+use Rattle.ac_base.specs.Spans.{IsIn, IsKind, is_coupling}
 use Rattle.ac_base.specs.Shape.{IsSpan}
 use Rattle.ac_expo.proofs.Walk.{range, IsRange}
-use Rattle.ac_expo.specs.Steps.{width, ahead, step_of, bin_of, last_step}
+use Rattle.ac_base.specs.Spans.{width}
+use Rattle.ac_expo.specs.Steps.{ahead, step_of, bin_of, last_step}
 use Rattle.ac_expo.specs.Greatest.{IsSpellable}
 use Rattle.ac_expo.specs.Groups.{first_of, reference, past, at_step}
 use Rattle.ac_expo.proofs.Walk.{IsWalk, IsOneOf, walk, rises, origin, span_kind, start_before_end}

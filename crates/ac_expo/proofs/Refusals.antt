@@ -4,9 +4,10 @@ use Rattle.std.specs.Prelude.{if◌then◌else◌}
 use Rattle.std.proofs.lemmas.Bool.{cases_eq, cases_lt}
 use Rattle.ac_base.specs.declared.spans.Lead.{Lead}
 use Rattle.ac_base.specs.declared.spans.Span.{Span}
-use Rattle.ac_expo.specs.Spans.{IsIn, IsKind, is_coupling}
+use Rattle.ac_base.specs.Spans.{IsIn, IsKind, is_coupling}
 use Rattle.ac_base.specs.Shape.{IsSpan}
-use Rattle.ac_expo.specs.Steps.{step_of, bin_of, groups_of, last_step}
+use Rattle.ac_base.specs.Spans.{groups_of}
+use Rattle.ac_expo.specs.Steps.{step_of, bin_of, last_step}
 use Rattle.ac_expo.specs.Greatest.{IsSpellable}
 use Rattle.ac_expo.specs.Spelling.{Spelling}
 use Rattle.ac_expo.specs.Groups.{mapped_of, sum_to, spelled_exponent, IsOutside, IsOfGroup, IsRefused, NoneRefused, IsExpanded}

@@ -4,9 +4,10 @@ use Rattle.std.proofs.lemmas.Bool.{cases_eq, eq-eqb, ne_eqb}
 use Rattle.std.proofs.lemmas.List.{get_or_append_left, get_or_push, length-append}
 use Rattle.ac_base.specs.declared.spans.Lead.{Lead}
 use Rattle.ac_base.specs.declared.spans.Span.{Span}
-use Rattle.ac_expo.specs.Spans.{is_coupling}
+use Rattle.ac_base.specs.Spans.{is_coupling}
 use Rattle.ac_base.specs.Shape.{IsSpan}
-use Rattle.ac_expo.specs.Steps.{step_of, groups_of, last_step}
+use Rattle.ac_base.specs.Spans.{groups_of}
+use Rattle.ac_expo.specs.Steps.{step_of, last_step}
 use Rattle.ac_expo.specs.Spelling.{Spelling}
 use Rattle.ac_expo.specs.Groups.{reference, at_step, mapped, group_of, groups_below, spelled_of, mapped_of, sum_to, ExpandUndoesGroup}
 use Rattle.ac_expo.proofs.Places.{IsPlaced, placed, near_steps, at_small, at_first, at_first_is, at_step_of, step_some}

@@ -4,9 +4,10 @@ use Rattle.std.proofs.lemmas.Bool.{cases_eq}
 use Rattle.ac_base.specs.declared.spans.Lead.{Lead}
 use Rattle.ac_base.specs.declared.spans.Lead.TheVariants.{Free, Coupled, Coupling, Low}
 use Rattle.ac_base.specs.declared.spans.Span.{Span}
-use Rattle.ac_expo.specs.Spans.{IsKind, greatest_kind, is_coupling}
+use Rattle.ac_base.specs.Spans.{IsKind, greatest_kind, is_coupling}
 use Rattle.ac_base.specs.Shape.{IsSpan, IsSpanOf}
-use Rattle.ac_expo.specs.Steps.{width, ahead, step_of, groups_of, last_step}
+use Rattle.ac_base.specs.Spans.{width, groups_of}
+use Rattle.ac_expo.specs.Steps.{ahead, step_of, last_step}
 
 -- the ends of spans, by remainders
 abbrev pub IsRange : Lead → ℕ → ℕ → Type 0

@@ -3,7 +3,7 @@
 -- project's own.
 use Rattle.std.specs.Prelude.{◌≡◌, ℕ, zero, suc, ◌+◌, ◌-◌, ◌*◌, ◌<◌, ◌≤◌, ◌==◌, min, Bool, false, if◌then◌else◌, List, [], slice_index, slice_index_or}
 use Rattle.ac_base.specs.declared.spans.Span.{Span}
-use Rattle.ac_expo.specs.Spans.{IsIn, IsKind, is_coupling}
+use Rattle.ac_base.specs.Spans.{IsIn, IsKind, is_coupling}
 use Rattle.ac_base.specs.Shape.{IsSpan}
 use Rattle.ac_expo.specs.Steps.{step_of, last_step}
 use Rattle.ac_expo.specs.Least.{spread}
@@ -11,8 +11,10 @@ use Rattle.ac_expo.specs.Least.{spread}
 -- what a kind can spell (A/52 7.1.3): exponents 0 to 24, one for each step, steps that differ by at most 2, and 4 bits for bin 0
 pub record IsSpellable (kind : ℕ) (span : Span) (exps : List ℕ) : Type 0 where
   pub small : (k : ℕ) → IsIn span k → slice_index exps k ≤ 24
-  pub constant : (j k : ℕ) → IsIn span j → IsIn span k → step_of kind span j ≡ step_of kind span k → slice_index exps j ≡ slice_index exps k
-  pub near : (j k : ℕ) → IsIn span j → IsIn span k → step_of kind span k ≡ step_of kind span j + 1 → (slice_index exps k ≤ slice_index exps j + 2) × (slice_index exps j ≤ slice_index exps k + 2)
+  pub constant : (j k : ℕ) → IsIn span j → IsIn span k → step_of kind span j ≡ step_of kind span k
+      → slice_index exps j ≡ slice_index exps k
+  pub near : (j k : ℕ) → IsIn span j → IsIn span k → step_of kind span k ≡ step_of kind span j + 1
+      → (slice_index exps k ≤ slice_index exps j + 2) × (slice_index exps j ≤ slice_index exps k + 2)
   pub first : is_coupling span.lead ≡ false → slice_index exps 0 ≤ 15
 
 -- ---- the choice (this project's own)
@@ -26,7 +28,8 @@ IsUnder span raw from to exps =
 pub record IsGreatest (kind : ℕ) (span : Span) (raw : List (List ℕ)) (from to : ℕ) (exps : List ℕ) : Type 0 where
   pub spellable : IsSpellable kind span exps
   pub under : IsUnder span raw from to exps
-  pub most : (others : List ℕ) (k : ℕ) → IsSpellable kind span others → IsUnder span raw from to others → IsIn span k → slice_index others k ≤ slice_index exps k
+  pub most : (others : List ℕ) (k : ℕ) → IsSpellable kind span others → IsUnder span raw from to others → IsIn span k
+      → slice_index others k ≤ slice_index exps k
 
 -- ---- the formula (this project's own)
 
@@ -39,7 +42,9 @@ bin_least raw from (suc n) bin = min (bin_least raw from n bin) (slice_index (sl
 unfoldable pub step_least : ℕ → Span → (ℕ → ℕ) → ℕ → ℕ → ℕ
 step_least kind span f zero step = 24
 step_least kind span f (suc n) step =
-    if step_of kind span (span.start + n) == step then min (step_least kind span f n step) (f (span.start + n)) else step_least kind span f n step
+    if step_of kind span (span.start + n) == step
+    then min (step_least kind span f n step) (f (span.start + n))
+    else step_least kind span f n step
 
 -- the least raw exponent of the bins of a step that are below the end, over the blocks of the run
 abbrev pub raw_least : ℕ → Span → List (List ℕ) → ℕ → ℕ → ℕ → ℕ
@@ -67,14 +72,18 @@ IsByFormula kind span raw from to exps = (k : ℕ) → IsIn span k → slice_ind
 -- the formula gives the greatest list
 abbrev pub FormulaIsGreatest : Type 0
 FormulaIsGreatest =
-    (kind : ℕ) (span : Span) (raw : List (List ℕ)) (from to : ℕ) (exps : List ℕ) → IsSpan span → IsKind kind span → IsByFormula kind span raw from to exps → IsGreatest kind span raw from to exps
+    (kind : ℕ) (span : Span) (raw : List (List ℕ)) (from to : ℕ) (exps : List ℕ)
+    → IsSpan span → IsKind kind span → IsByFormula kind span raw from to exps → IsGreatest kind span raw from to exps
 
 -- two greatest lists are one
 abbrev pub GreatestIsOne : Type 0
 GreatestIsOne =
-    (kind : ℕ) (span : Span) (raw : List (List ℕ)) (from to : ℕ) (exps others : List ℕ) → IsGreatest kind span raw from to exps → IsGreatest kind span raw from to others → (k : ℕ) → IsIn span k → slice_index exps k ≡ slice_index others k
+    (kind : ℕ) (span : Span) (raw : List (List ℕ)) (from to : ℕ) (exps others : List ℕ)
+    → IsGreatest kind span raw from to exps → IsGreatest kind span raw from to others
+    → (k : ℕ) → IsIn span k → slice_index exps k ≡ slice_index others k
 
 -- there is a greatest list
 abbrev pub GreatestExists : Type 0
 GreatestExists =
-    (kind : ℕ) (span : Span) (raw : List (List ℕ)) (from to : ℕ) → IsSpan span → IsKind kind span → (exps : List ℕ) × IsGreatest kind span raw from to exps
+    (kind : ℕ) (span : Span) (raw : List (List ℕ)) (from to : ℕ)
+    → IsSpan span → IsKind kind span → (exps : List ℕ) × IsGreatest kind span raw from to exps

@@ -3,9 +3,10 @@
 use Rattle.std.specs.Prelude.{◌≡◌, ℕ, zero, suc, ◌+◌, ◌-◌, ◌*◌, ◌/◌, ◌%◌, ◌<◌, ◌≤◌, ◌==◌, ◌⊎◌, min, nat_lt, if◌then◌else◌, List, [], ◌∷◌, ◌++◌, length, slice_index}
 use Rattle.ac_base.specs.declared.spans.Lead.{Lead}
 use Rattle.ac_base.specs.declared.spans.Span.{Span}
-use Rattle.ac_expo.specs.Spans.{IsIn, IsKind, is_coupling}
+use Rattle.ac_base.specs.Spans.{IsIn, IsKind, is_coupling}
 use Rattle.ac_base.specs.Shape.{IsSpan}
-use Rattle.ac_expo.specs.Steps.{step_of, bin_of, groups_of}
+use Rattle.ac_base.specs.Spans.{groups_of}
+use Rattle.ac_expo.specs.Steps.{step_of, bin_of}
 use Rattle.ac_expo.specs.Greatest.{IsSpellable}
 use Rattle.ac_expo.specs.Spelling.{Spelling}
 
@@ -34,7 +35,8 @@ mapped kind span exps i = at_step kind span exps (i + 1) + 2 - at_step kind span
 
 -- a group of three differences in 7 bits (A/52 7.1.3)
 abbrev pub group_of : ℕ → Span → List ℕ → ℕ → ℕ
-group_of kind span exps place = 25 * mapped kind span exps (3 * place) + 5 * mapped kind span exps (3 * place + 1) + mapped kind span exps (3 * place + 2)
+group_of kind span exps place =
+    25 * mapped kind span exps (3 * place) + 5 * mapped kind span exps (3 * place + 1) + mapped kind span exps (3 * place + 2)
 
 -- the first n groups
 unfoldable pub groups_below : ℕ → Span → List ℕ → ℕ → List ℕ
@@ -97,4 +99,5 @@ IsExpanded kind span spelled exps = (k : ℕ) → IsIn span k → slice_index ex
 -- a list that can be spelled comes back: a law of these definitions
 abbrev pub ExpandUndoesGroup : Type 0
 ExpandUndoesGroup =
-    (kind : ℕ) (span : Span) (exps : List ℕ) → IsSpan span → IsKind kind span → IsSpellable kind span exps → NoneRefused kind span (spelled_of kind span exps) × IsExpanded kind span (spelled_of kind span exps) exps
+    (kind : ℕ) (span : Span) (exps : List ℕ) → IsSpan span → IsKind kind span → IsSpellable kind span exps
+    → NoneRefused kind span (spelled_of kind span exps) × IsExpanded kind span (spelled_of kind span exps) exps

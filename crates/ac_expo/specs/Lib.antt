@@ -2,7 +2,6 @@ pub mod Greatest
 pub mod Groups
 pub mod Least
 pub mod Raw
-pub mod Spans
 pub mod Spelling
 pub mod Steps
 pub mod Sums

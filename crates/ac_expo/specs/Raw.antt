@@ -3,7 +3,7 @@ use Rattle.std.specs.Prelude.{◌≡◌, ℕ, zero, suc, ◌*◌, ◌^◌, ◌<�
 use Rattle.ac_base.specs.declared.shapes.Shape.{Shape}
 use Rattle.ac_base.specs.declared.spans.Span.{Span}
 use Rattle.ac_base.specs.Shape.{span_of, coded_of}
-use Rattle.ac_expo.specs.Spans.{IsIn}
+use Rattle.ac_base.specs.Spans.{IsIn}
 
 -- the greatest e from 0 to n with magnitude * 2 ^ e below 2 ^ 24, by a search downwards
 unfoldable pub raw_below : ℕ → ℕ → ℕ
@@ -51,7 +51,8 @@ AreRaw shape cs es = (c : ℕ) → c < channels shape → AreRawInBlocks (channe
 -- each entry outside the spans of the coded channels is 24
 abbrev pub AreSilentElsewhere : Shape → List (List (List ℕ)) → Type 0
 AreSilentElsewhere shape es =
-    (c b k : ℕ) → c < 7 → b < 6 → k < 256 → (c < channels shape → IsIn (channel_span shape c) k → ⊥) → slice_index (slice_index_or (slice_index_or es c []) b []) k ≡ 24
+    (c b k : ℕ) → c < 7 → b < 6 → k < 256 → (c < channels shape → IsIn (channel_span shape c) k → ⊥)
+    → slice_index (slice_index_or (slice_index_or es c []) b []) k ≡ 24
 
 -- what stands outside the span stays, in each block
 abbrev pub KeepsOutside : Span → List (List ℕ) → List (List ℕ) → Type 0
@@ -61,7 +62,9 @@ KeepsOutside span old new =
 -- and for each channel
 abbrev pub KeepsElsewhere : Shape → List (List (List ℕ)) → List (List (List ℕ)) → Type 0
 KeepsElsewhere shape old new =
-    (c b k : ℕ) → (c < channels shape → IsIn (channel_span shape c) k → ⊥) → slice_index (slice_index_or (slice_index_or new c []) b []) k ≡ slice_index (slice_index_or (slice_index_or old c []) b []) k
+    (c b k : ℕ) → (c < channels shape → IsIn (channel_span shape c) k → ⊥)
+    → slice_index (slice_index_or (slice_index_or new c []) b []) k
+    ≡ slice_index (slice_index_or (slice_index_or old c []) b []) k
 
 -- ---- which coefficients have raw exponents
 

@@ -1,12 +1,8 @@
--- Steps and groups of exponents (A/52 7.1.2, 7.1.3).
-use Rattle.std.specs.Prelude.{ℕ, ◌+◌, ◌-◌, ◌*◌, ◌/◌, ◌==◌, if◌then◌else◌}
+-- Steps of exponents (A/52 7.1.2, 7.1.3).
+use Rattle.std.specs.Prelude.{ℕ, ◌+◌, ◌-◌, ◌*◌, ◌/◌, if◌then◌else◌}
 use Rattle.ac_base.specs.declared.spans.Lead.{Lead}
 use Rattle.ac_base.specs.declared.spans.Span.{Span}
-use Rattle.ac_expo.specs.Spans.{is_coupling}
-
--- the bins that a difference covers (A/52 7.1.3: grpsize)
-abbrev pub width : ℕ → ℕ
-width kind = if kind == 1 then 1 else (if kind == 2 then 2 else 4)
+use Rattle.ac_base.specs.Spans.{is_coupling, width, groups_of}
 
 -- how far step 0 reaches before the start. Steps are this project's own word for the bins of one difference
 abbrev pub ahead : ℕ → Lead → ℕ
@@ -20,13 +16,6 @@ step_of kind span bin = (bin - span.start + ahead kind span.lead) / width kind
 -- the first bin of a step
 unfoldable pub bin_of : ℕ → Span → ℕ → ℕ
 bin_of kind span step = span.start + (step * width kind - ahead kind span.lead)
-
--- nchgrps, ncplgrps and nlfegrps (A/52 7.1.3)
-unfoldable pub groups_of : ℕ → Span → ℕ
-groups_of kind span =
-    if is_coupling span.lead
-    then (span.end - span.start) / (3 * width kind)
-    else (if kind == 1 then (span.end - 1) / 3 else (if kind == 2 then (span.end + 2) / 6 else (span.end + 8) / 12))
 
 -- the last step that a list spells, three differences a group (A/52 7.1.3)
 abbrev pub last_step : ℕ → Span → ℕ

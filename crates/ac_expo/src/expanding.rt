@@ -1,11 +1,13 @@
 //! From groups to exponents.
-ghost use Rattle.std.specs.Prelude.{◌≡◌, ◌≢◌, ◌↔◌, ◌⊎◌, ℕ, ◌+◌, ◌-◌, ◌*◌, ◌<◌, ◌≤◌, IsTrue, IfOk, IfErr, MatchOption, length, slice_index};
-ghost use Rattle.ac_expo.specs.Spans.{IsIn, IsKind, is_coupling};
+ghost use Rattle.std.specs.Prelude.{◌≡◌, ◌≢◌, ◌↔◌, ◌⊎◌, ℕ, ◌+◌, ◌-◌, ◌*◌, ◌<◌, ◌≤◌};
+ghost use Rattle.std.specs.Prelude.{IsTrue, IfOk, IfErr, MatchOption, MatchResult, length, slice_index};
+ghost use Rattle.ac_base.specs.Spans.{IsIn, IsKind, is_coupling};
 ghost use Rattle.ac_base.specs.Shape.{IsSpan};
-ghost use Rattle.ac_expo.specs.Steps.{step_of, bin_of, groups_of, last_step};
+ghost use Rattle.ac_base.specs.Spans.{groups_of};
+ghost use Rattle.ac_expo.specs.Steps.{step_of, bin_of, last_step};
 ghost use Rattle.ac_expo.specs.Greatest.{IsSpellable};
 ghost use Rattle.ac_expo.specs.Groups.{mapped_of, sum_to, spelled_exponent, IsRefused, IsFirstRefused, NoneRefused, IsExpanded};
-ghost use Rattle.ac_expo.specs.Sums.{IsBadSum, HasBadSum};
+ghost use Rattle.ac_expo.specs.Sums.{IsBadSum, HasBadSum, AreGoodSums, AreOfSums};
 
 use crate::grouping::before;
 use crate::spelled::Spelled;
@@ -108,9 +110,9 @@ fn first_refused(kind: u8, span: &Span, spelled: &Spelled, sums: &[u16; 256]) ->
 fn write(sums: &[u16; 256], kind: u8, span: &Span, out: &mut [u8; 256])
     requires kind { IsKind kind span.now }
     requires span { IsSpan span.now }
-    requires within { (k : ℕ) → IsIn span.now k → (2 * step_of kind span.now k ≤ slice_index sums.now (step_of kind span.now k)) × (slice_index sums.now (step_of kind span.now k) ≤ 2 * step_of kind span.now k + 24) }
-    ensures inside { (k : ℕ) → IsIn span.now k → slice_index out.new k ≡ slice_index sums.now (step_of kind span.now k) - 2 * step_of kind span.now k }
-    ensures others { (k : ℕ) → (IsIn span.now k → ⊥) → slice_index out.new k ≡ slice_index out.old k }
+    requires within { AreGoodSums kind span.now sums.now }
+    ensures value { AreOfSums kind span.now sums.now out.new }
+    ensures rest { (k : ℕ) → (IsIn span.now k → ⊥) → slice_index out.new k ≡ slice_index out.old k }
 {
     for k in usize::from(span.start)..usize::from(span.end) {
         let at = step(kind, span, k);
@@ -118,8 +120,14 @@ fn write(sums: &[u16; 256], kind: u8, span: &Span, out: &mut [u8; 256])
     }
 }
 
-/// The exponents of a spelling, in the bins of the span (A/52 7.1.3). Refused is the first group that is over 124 or that
-/// gives an exponent outside 0 to 24 at a bin below the end; then `out` stays as it was.
+/// The exponents of a spelling, in the bins of the span (A/52 7.1.3). Entries outside the span stay as they were.
+///
+/// The spelling has the groups of its kind and span, and a first exponent of at most 15.
+///
+/// # Errors
+///
+/// `BadExponent` exactly where a group is over 124 or gives an exponent outside 0 to 24 at a bin below the end, with the place of
+/// the first such group. Then `out` stays as it was.
 pub fn expand(
     kind: u8,
     span: &Span,
@@ -130,12 +138,12 @@ pub fn expand(
     requires span { IsSpan span.now }
     requires count { length spelled.now.groups ≡ groups_of kind span.now }
     requires first { spelled.now.first ≤ 15 }
-    ensures accepted { IfOk result (λ _. NoneRefused kind span.now spelled.now) }
-    ensures expanded { IfOk result (λ _. IsExpanded kind span.now spelled.now out.new) }
+    ensures cause { MatchResult result (λ _. NoneRefused kind span.now spelled.now)
+        (λ bad. IsFirstRefused kind span.now spelled.now bad.place) }
+    ensures value { IfOk result (λ _. IsExpanded kind span.now spelled.now out.new) }
     ensures spellable { IfOk result (λ _. IsSpellable kind span.now out.new) }
-    ensures others { IfOk result (λ _. (k : ℕ) → (IsIn span.now k → ⊥) → slice_index out.new k ≡ slice_index out.old k) }
-    ensures refused { IfErr result (λ bad. IsFirstRefused kind span.now spelled.now bad.place) }
-    ensures same { IfErr result (λ _. out.new ≡ out.old) }
+    ensures rest { IfOk result (λ _. (k : ℕ) → (IsIn span.now k → ⊥) → slice_index out.new k ≡ slice_index out.old k) }
+    ensures kept { IfErr result (λ _. out.new ≡ out.old) }
 {
     let sums = sums_of(span.lead, spelled);
     match first_refused(kind, span, spelled, &sums) {

@@ -1,8 +1,9 @@
 //! From a list of exponents to its groups.
 ghost use Rattle.std.specs.Prelude.{◌≡◌, ℕ, ◌+◌, ◌-◌, ◌*◌, ◌<◌, ◌≤◌, length, slice_index};
-ghost use Rattle.ac_expo.specs.Spans.{IsIn, IsKind, is_coupling};
+ghost use Rattle.ac_base.specs.Spans.{IsIn, IsKind, is_coupling};
 ghost use Rattle.ac_base.specs.Shape.{IsSpan};
-ghost use Rattle.ac_expo.specs.Steps.{step_of, bin_of, groups_of, last_step};
+ghost use Rattle.ac_base.specs.Spans.{groups_of};
+ghost use Rattle.ac_expo.specs.Steps.{step_of, bin_of, last_step};
 ghost use Rattle.ac_expo.specs.Greatest.{IsSpellable};
 ghost use Rattle.ac_expo.specs.Groups.{first_of, reference, past, at_step, mapped, group_of, groups_below, spelled_of};
 
@@ -110,10 +111,10 @@ pub fn group(kind: u8, span: &Span, exps: &[u8; 256]) -> Spelled
     requires kind { IsKind kind span.now }
     requires span { IsSpan span.now }
     requires can { IsSpellable kind span.now exps.now }
-    ensures spelled { result ≡ spelled_of kind span.now exps.now }
-    ensures first { result.first ≤ 15 }
+    ensures value { result ≡ spelled_of kind span.now exps.now }
     ensures count { length result.groups ≡ groups_of kind span.now }
-    ensures small { (place : ℕ) → place < length result.groups → slice_index result.groups place ≤ 124 }
+    ensures first { result.first ≤ 15 }
+    ensures bound { (place : ℕ) → place < length result.groups → slice_index result.groups place ≤ 124 }
 {
     let mut spelled = Spelled::new(first(span, exps));
     for place in 0..groups(kind, span) {

@@ -14,13 +14,14 @@ mod spelled;
 mod steps;
 mod word;
 
+pub use ac_base::Run;
 pub use expanding::{BadExponent, expand};
 pub use grouping::group;
 pub use laws::{exponent_laws, word_laws};
 pub use lists::greatest;
 pub use raw::raw_exponent;
 pub use raws::RawExps;
-pub use run::{Run, runs};
+pub use run::runs;
 pub use spelled::Spelled;
 pub use steps::groups;
 pub use word::{Assign, Word, word_at};

@@ -1,15 +1,14 @@
 //! The exponents of a run: the greatest list that its kind can spell and that is at most the raw exponents.
 ghost use Rattle.std.specs.Prelude.{◌≡◌, ℕ, ◌+◌, ◌-◌, ◌*◌, ◌<◌, ◌≤◌, min, [], length, slice_index, slice_index_or};
-ghost use Rattle.ac_expo.specs.Spans.{IsIn, IsKind, is_coupling};
+ghost use Rattle.ac_base.specs.Spans.{IsIn, IsKind, is_coupling};
 ghost use Rattle.ac_base.specs.Shape.{IsSpan};
 ghost use Rattle.ac_expo.specs.Steps.{step_of, last_step};
 ghost use Rattle.ac_expo.specs.Least.{spread};
 ghost use Rattle.ac_expo.specs.Greatest.{IsGreatest, IsByFormula, bin_least, step_least, step_exponent, capped};
 
-use crate::run::Run;
 use crate::smooth::smooth;
 use crate::steps::{coupling, groups, step};
-use ac_base::{Lead, Span};
+use ac_base::{Lead, Run, Span};
 
 /// Lowers each bin of the span to that of a row.
 fn lower_bins(row: &[u8; 256], span: &Span, bins: &mut [u8; 256])
@@ -39,8 +38,9 @@ fn least_of_blocks(raw: &[[u8; 256]; 6], run: &Run, span: &Span) -> [u8; 256]
 fn least_of_steps(bins: &[u8; 256], kind: u8, span: &Span) -> [u8; 256]
     requires kind { IsKind kind span.now }
     requires span { IsSpan span.now }
-    ensures value { (g : ℕ) → g < 256 → slice_index result g ≡ step_least kind span.now (slice_index bins.now) (span.now.end - span.now.start) g }
-    ensures small { (g : ℕ) → slice_index result g ≤ 24 }
+    ensures value { (g : ℕ) → g < 256 → slice_index result g
+        ≡ step_least kind span.now (slice_index bins.now) (span.now.end - span.now.start) g }
+    ensures bound { (g : ℕ) → slice_index result g ≤ 24 }
 {
     let mut steps = [24; 256];
     for k in usize::from(span.start)..usize::from(span.end) {
@@ -53,9 +53,9 @@ fn least_of_steps(bins: &[u8; 256], kind: u8, span: &Span) -> [u8; 256]
 /// The exponent of bin 0 has 4 bits, where it is no step of the coupling channel.
 fn cap(lead: Lead, steps: &mut [u8; 256])
     requires { (g : ℕ) → slice_index steps.old g ≤ 24 }
-    ensures small { (g : ℕ) → slice_index steps.new g ≤ 24 }
+    ensures bound { (g : ℕ) → slice_index steps.new g ≤ 24 }
     ensures first { slice_index steps.new 0 ≡ capped (is_coupling lead) 0 (slice_index steps.old 0) }
-    ensures others { (k : ℕ) → 0 < k → slice_index steps.new k ≡ slice_index steps.old k }
+    ensures rest { (k : ℕ) → 0 < k → slice_index steps.new k ≡ slice_index steps.old k }
 {
     if !coupling(lead) {
         steps[0] = steps[0].min(15);
@@ -66,8 +66,8 @@ fn cap(lead: Lead, steps: &mut [u8; 256])
 fn spread_out(steps: &[u8; 256], kind: u8, span: &Span, out: &mut [u8; 256])
     requires kind { IsKind kind span.now }
     requires span { IsSpan span.now }
-    ensures inside { (k : ℕ) → IsIn span.now k → slice_index out.new k ≡ slice_index steps.now (step_of kind span.now k) }
-    ensures others { (k : ℕ) → (IsIn span.now k → ⊥) → slice_index out.new k ≡ slice_index out.old k }
+    ensures value { (k : ℕ) → IsIn span.now k → slice_index out.new k ≡ slice_index steps.now (step_of kind span.now k) }
+    ensures rest { (k : ℕ) → (IsIn span.now k → ⊥) → slice_index out.new k ≡ slice_index out.old k }
 {
     for k in usize::from(span.start)..usize::from(span.end) {
         out[k] = steps[step(kind, span, k)];
@@ -81,9 +81,9 @@ pub fn greatest(raw: &[[u8; 256]; 6], run: &Run, span: &Span, out: &mut [u8; 256
     requires span { IsSpan span.now }
     requires order { run.now.from < run.now.to }
     requires blocks { run.now.to ≤ 6 }
-    ensures formula { IsByFormula run.now.kind span.now raw.now run.now.from run.now.to out.new }
+    ensures value { IsByFormula run.now.kind span.now raw.now run.now.from run.now.to out.new }
     ensures greatest { IsGreatest run.now.kind span.now raw.now run.now.from run.now.to out.new }
-    ensures others { (k : ℕ) → (IsIn span.now k → ⊥) → slice_index out.new k ≡ slice_index out.old k }
+    ensures rest { (k : ℕ) → (IsIn span.now k → ⊥) → slice_index out.new k ≡ slice_index out.old k }
 {
     let bins = least_of_blocks(raw, run, span);
     let mut steps = least_of_steps(&bins, run.kind, span);

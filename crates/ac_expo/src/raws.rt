@@ -1,7 +1,7 @@
 //! The raw exponents of a frame.
 ghost use Rattle.std.specs.Prelude.{◌≡◌, ℕ, ◌<◌, ◌≤◌, List, [], length, slice_index, slice_index_or};
 ghost use Rattle.ac_base.specs.Shape.{coded_of};
-ghost use Rattle.ac_expo.specs.Spans.{IsIn};
+ghost use Rattle.ac_base.specs.Spans.{IsIn};
 ghost use Rattle.ac_expo.specs.Raw.{raw_of, channels, AreRawInRow, AreRawInBlocks, AreRaw, AreSmallInRow, AreSmallInBlocks, AreSmall, AreSilentElsewhere, KeepsOutside, KeepsElsewhere};
 
 use crate::raw::raw_exponent;
@@ -20,8 +20,8 @@ static SILENCE: RawExps = RawExps {
 fn write_row(row: &[i32; 256], span: &Span, out: &mut [u8; 256])
     requires end { span.now.end ≤ 253 }
     requires small { AreSmallInRow span.now row.now }
-    ensures inside { AreRawInRow span.now row.now out.new }
-    ensures others { (k : ℕ) → (IsIn span.now k → ⊥) → slice_index out.new k ≡ slice_index out.old k }
+    ensures value { AreRawInRow span.now row.now out.new }
+    ensures rest { (k : ℕ) → (IsIn span.now k → ⊥) → slice_index out.new k ≡ slice_index out.old k }
 {
     for k in usize::from(span.start)..usize::from(span.end) {
         out[k] = raw_exponent(row[k]);
@@ -31,8 +31,8 @@ fn write_row(row: &[i32; 256], span: &Span, out: &mut [u8; 256])
 fn write_blocks(rows: &[[i32; 256]; 6], span: &Span, out: &mut [[u8; 256]; 6])
     requires end { span.now.end ≤ 253 }
     requires small { AreSmallInBlocks span.now rows.now }
-    ensures inside { AreRawInBlocks span.now rows.now out.new }
-    ensures others { KeepsOutside span.now out.old out.new }
+    ensures value { AreRawInBlocks span.now rows.now out.new }
+    ensures rest { KeepsOutside span.now out.old out.new }
 {
     for b in 0..6 {
         write_row(&rows[b], span, &mut out[b]);
@@ -41,8 +41,8 @@ fn write_blocks(rows: &[[i32; 256]; 6], span: &Span, out: &mut [[u8; 256]; 6])
 
 fn write_channels(shape: &Shape, coefs: &Coefs, out: &mut RawExps)
     requires { AreSmall shape.now coefs.now.c }
-    ensures inside { AreRaw shape.now coefs.now.c out.new.e }
-    ensures others { KeepsElsewhere shape.now out.old.e out.new.e }
+    ensures value { AreRaw shape.now coefs.now.c out.new.e }
+    ensures rest { KeepsElsewhere shape.now out.old.e out.new.e }
 {
     for c in 0..shape.coded() {
         let at = usize::from(c);
@@ -54,8 +54,8 @@ impl RawExps {
     /// The raw exponents of coefficients of scale 2^24, in the spans of the coded channels; each other entry is 24.
     pub fn of(shape: &Shape, coefs: &Coefs) -> RawExps
         requires { AreSmall shape.now coefs.now.c }
-        ensures raw { AreRaw shape.now coefs.now.c result.e }
-        ensures others { AreSilentElsewhere shape.now result.e }
+        ensures value { AreRaw shape.now coefs.now.c result.e }
+        ensures silent { AreSilentElsewhere shape.now result.e }
     {
         let silence = &SILENCE;
         let mut exps = *silence;

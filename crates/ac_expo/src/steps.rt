@@ -1,8 +1,9 @@
 //! Steps and groups of exponents.
 ghost use Rattle.std.specs.Prelude.{◌≡◌, ℕ, ◌+◌, ◌-◌, ◌*◌, ◌<◌, ◌≤◌};
-ghost use Rattle.ac_expo.specs.Spans.{IsIn, IsKind, is_coupling};
+ghost use Rattle.ac_base.specs.Spans.{IsIn, IsKind, is_coupling};
 ghost use Rattle.ac_base.specs.Shape.{IsSpan};
-ghost use Rattle.ac_expo.specs.Steps.{width, ahead, step_of, bin_of, groups_of, last_step};
+ghost use Rattle.ac_base.specs.Spans.{width, groups_of};
+ghost use Rattle.ac_expo.specs.Steps.{ahead, step_of, bin_of, last_step};
 
 use ac_base::{Lead, Span};
 
@@ -18,7 +19,7 @@ pub fn coupling(lead: Lead) -> bool
 }
 
 /// The number of groups of a span's exponents in a kind, at most 84 (A/52 7.1.3).
-#[tactic(auto, unfolding(crate::specs::Steps::groups_of))]
+#[tactic(auto, unfolding(ac_base::specs::Spans::groups_of))]
 pub fn groups(kind: u8, span: &Span) -> u8
     requires kind { IsKind kind span.now }
     requires span { IsSpan span.now }

@@ -1,6 +1,7 @@
 //! Strategy words.
 ghost use Rattle.std.specs.Prelude.{◌≡◌, ◌↔◌, ℕ, ◌<◌, ◌≤◌, List, Option, None, IsTrue, IsSome, IfSome, slice_index};
-ghost use Rattle.ac_expo.specs.Words.{IsWord, word_list};
+ghost use Rattle.ac_base.specs.Words.{IsWord};
+ghost use Rattle.ac_expo.specs.Words.{word_list};
 
 use std::marker::Model;
 
@@ -37,13 +38,21 @@ fn are_small(codes: &[u8; 6]) -> bool
 impl Word {
     /// The word of six codes; none where block 0 sends nothing or a code is over 3.
     pub fn new(codes: [u8; 6]) -> Option<Word>
-        ensures made { IsSome result ↔ IsWord codes }
-        ensures same { IfSome result (λ word. word ≡ codes) }
+        ensures cause { IsSome result ↔ IsWord codes }
+        ensures value { IfSome result (λ word. word ≡ codes) }
     {
         if codes[0] == 0 || !are_small(&codes) {
             return None;
         }
         Some(Word { codes })
+    }
+
+    /// The six codes.
+    pub fn codes(&self) -> [u8; 6]
+        ensures value { result ≡ self.now }
+        ensures word { IsWord result }
+    {
+        self.codes
     }
 
     /// The code of a block.

@@ -1,7 +1,15 @@
 -- What the entries of a folded list are.
-use Rattle.std.proofs.Common.{◌≡◌, ℕ, ◌+◌, ◌-◌, ◌<◌, ◌≤◌, ℤ, pos, List, ◌+ℤ◌, ◌-ℤ◌, slice_index_or, arith, ap, ◌∙◌}
+use Rattle.std.proofs.Common.{◌≡◌, ℕ, ◌+◌, ◌-◌, ◌<◌, ◌≤◌, ℤ, pos, List, ◌+ℤ◌, ◌-ℤ◌, slice_index_or, ◌*ℤ◌, arith, ap, ◌∙◌}
 use Rattle.std.proofs.lemmas.Bool.Decides.{nat_tests}
+use Rattle.ac_base.specs.Sigma.{sigma}
+use Rattle.ac_base.specs.Cosine.{cosine_at}
 use Rattle.ac_mdct.specs.Fold.{folded}
+use Rattle.ac_mdct.specs.Forward.{phase}
+use Rattle.ac_mdct.specs.Place.{place}
+
+-- the sum over folded values
+abbrev pub folded_sum : (ℕ → ℤ) → ℕ → ℤ
+folded_sum u k = sigma 256 (λ i. u i *ℤ cosine_at (phase k (place i)))
 
 pub folded_low : (v : List ℤ) (i : ℕ) → i < 128 → folded v i ≡ slice_index_or v i (pos 0) -ℤ slice_index_or v (255 - i) (pos 0)
 unfolding folded

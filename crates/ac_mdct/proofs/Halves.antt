@@ -8,8 +8,8 @@ use Rattle.ac_base.proofs.Rearranged.{sigma_same, sigma_split, sigma_pairs}
 use Rattle.ac_base.proofs.Waves.{cosine_same, cosine_turn}
 use Rattle.ac_mdct.specs.Fold.{folded}
 use Rattle.ac_mdct.specs.Forward.{phase, forward_sum}
-use Rattle.ac_mdct.specs.Place.{place, folded_sum}
-use Rattle.ac_mdct.proofs.Folds.{folded_low, folded_high}
+use Rattle.ac_mdct.specs.Place.{place}
+use Rattle.ac_mdct.proofs.Folds.{folded_sum, folded_low, folded_high}
 
 pub place_low : (i : ℕ) → i < 128 → place i ≡ i
 unfolding place

@@ -13,8 +13,9 @@ use Rattle.ac_base.proofs.Rearranged.{sigma_same, sigma_reordered, Reorders}
 use Rattle.ac_base.proofs.Waves.{cosine_same, cosine_period, cosine_half}
 use Rattle.ac_mdct.specs.Forward.{phase}
 use Rattle.ac_mdct.specs.Inverse.{inverse_sum}
-use Rattle.ac_mdct.specs.Place.{place, folded_sum}
+use Rattle.ac_mdct.specs.Place.{place}
 use Rattle.ac_base.specs.Sigma.{Lists}
+use Rattle.ac_mdct.proofs.Folds.{folded_sum}
 use Rattle.ac_mdct.proofs.Halves.{place_low, place_high}
 use Rattle.ac_mdct.specs.Powers.{log_of, forward_pick, inverse_pick, turned_by, forward_spun, inverse_spun}
 

@@ -1,16 +1,9 @@
 -- The places that a folded sum keeps: this project's own way to the sums of A/52 7.9.4.1 and 8.2.3.2.
-use Rattle.std.specs.Prelude.{ℕ, ◌+◌, ◌-◌, List, ℤ, pos, neg_ℤ, ◌*ℤ◌, slice_index_or, nat_lt, if◌then◌else◌}
-use Rattle.ac_base.specs.Sigma.{sigma}
-use Rattle.ac_base.specs.Cosine.{cosine_at}
-use Rattle.ac_mdct.specs.Forward.{phase}
+use Rattle.std.specs.Prelude.{ℕ, ◌+◌, ◌-◌, List, ℤ, pos, neg_ℤ, slice_index_or, nat_lt, if◌then◌else◌}
 
 -- places 0 to 127, then 256 to 383
 unfoldable pub place : ℕ → ℕ
 place i = if nat_lt i 128 then i else i + 128
-
--- the sum over folded values
-abbrev pub folded_sum : (ℕ → ℤ) → ℕ → ℤ
-folded_sum u k = sigma 256 (λ i. u i *ℤ cosine_at (phase k (place i)))
 
 -- the sum at place n, from the sums at the places kept
 unfoldable pub unfolded : List ℤ → ℕ → ℤ

@@ -1,6 +1,5 @@
 -- Odd phases as powers of five: this project's own order of the sums of A/52 7.9.4.1 and 8.2.3.2.
-use Rattle.std.specs.Prelude.{◌≡◌, ℕ, ◌+◌, ◌^◌, ◌<◌, List, ℤ, pos, neg_ℤ, nat_lt, if◌then◌else◌, slice_index, slice_index_or}
-use Rattle.ac_base.specs.Cosine.{cosine_at}
+use Rattle.std.specs.Prelude.{ℕ, ◌+◌, List, ℤ, pos, neg_ℤ, nat_lt, if◌then◌else◌, slice_index, slice_index_or}
 use Rattle.ac_mdct.specs.declared.powers.TheConstants.{LOG, FORWARD, INVERSE}
 use Rattle.ac_mdct.specs.Place.{place}
 
@@ -8,15 +7,13 @@ use Rattle.ac_mdct.specs.Place.{place}
 unfoldable pub log_of : ℕ → ℕ
 log_of h = slice_index LOG h
 
+-- the folded value with logarithm b, or b + 256
 unfoldable pub forward_pick : ℕ → ℕ
 forward_pick b = slice_index FORWARD b
 
+-- the coefficient with logarithm b, or b + 256
 unfoldable pub inverse_pick : ℕ → ℕ
 inverse_pick b = slice_index INVERSE b
-
--- the first n cosines of the powers
-abbrev pub IsPowers : ℕ → List ℤ → Type 0
-IsPowers n table = (j : ℕ) → j < n → slice_index_or table j (pos 0) ≡ cosine_at (5 ^ j)
 
 -- half a turn from the power 256 on
 unfoldable pub turned_by : ℕ → ℤ → ℤ

@@ -1,4 +1,4 @@
-//! The transforms by 256 products a sum: folded, and in the order of logarithms.
+//! Both transforms: windowed and folded, in the order of the logarithms, by the sums of `ac_cosine_sums`.
 ghost use Rattle.std.specs.Prelude.{◌≡◌, ◌<◌, ◌≤◌, ◌^◌, ◌+◌, ◌-◌, ◌++◌, ℕ, pos, neg_ℤ, unsigned_abs, slice_index_or};
 ghost use Rattle.ac_base.specs.Sigma.{Within};
 ghost use Rattle.ac_mdct.specs.Forward.{windowed, forward_sum, IsForward};
@@ -7,7 +7,7 @@ ghost use Rattle.ac_mdct.specs.Place.{place, unfolded};
 ghost use Rattle.ac_base.specs.Sigma.{Lists};
 
 use crate::folded::fold;
-use crate::powers::{log, place_of, powers, slid, spin_forward, spin_inverse};
+use crate::powers::{log, place_of, power_sum, spin_forward, spin_inverse};
 use crate::rounding::{coefficient_of, part, sample};
 use crate::windowing::windowed;
 
@@ -21,15 +21,16 @@ pub fn forward(prev: &[i32; 256], now: &[i32; 256], out: &mut [i32; 256])
     ensures value { IsForward prev.now now.now out.new }
     ensures bound { Within (2 ^ 24 - 1) 256 out.new }
 {
-    let table = powers();
     let mut v = [0i32; 512];
     windowed(prev, now, &mut v);
     let mut u = [0i32; 256];
     fold(&v, &mut u);
     let mut w = [0i32; 256];
     spin_forward(&u, &mut w);
+    let mut sums = [0i64; 256];
+    ac_cosine_sums::cosine_sums(&w, &mut sums);
     for k in 0..256usize {
-        out[k] = coefficient_of(slid(&w, &table, log(k)));
+        out[k] = coefficient_of(power_sum(&sums, &w, log(k)));
     }
 }
 
@@ -39,11 +40,12 @@ fn inverse_sums(coefs: &[i32; 256], out: &mut [i64; 256])
     ensures value { Lists 256 (λ i. inverse_sum coefs.now (place i)) out.new }
     ensures bound { Within (2 ^ 62) 256 out.new }
 {
-    let table = powers();
     let mut w = [0i32; 256];
     spin_inverse(coefs, &mut w);
+    let mut sums = [0i64; 256];
+    ac_cosine_sums::cosine_sums(&w, &mut sums);
     for i in 0..256usize {
-        out[i] = slid(&w, &table, log(place_of(i as u8) + 128));
+        out[i] = power_sum(&sums, &w, log(place_of(i as u8) + 128));
     }
 }
 

@@ -1,9 +1,10 @@
-// 512 places folded to 256.
+//! 512 places folded to 256.
 ghost use Rattle.std.specs.Prelude.{◌≡◌, ◌<◌, ◌≤◌, ◌^◌, ◌+◌, ◌-◌, ◌+ℤ◌, ◌-ℤ◌, ℕ, pos, unsigned_abs, slice_index_or};
 ghost use Rattle.ac_base.specs.Sigma.{Within};
 ghost use Rattle.ac_mdct.specs.Fold.{folded};
 ghost use Rattle.ac_base.specs.Sigma.{Lists};
 
+/// The difference of two windowed samples.
 #[inline]
 fn minus(a: i32, b: i32) -> i32
     requires left { unsigned_abs a ≤ 2 ^ 23 }
@@ -14,6 +15,7 @@ fn minus(a: i32, b: i32) -> i32
     a - b
 }
 
+/// The sum of two windowed samples.
 #[inline]
 fn plus(a: i32, b: i32) -> i32
     requires left { unsigned_abs a ≤ 2 ^ 23 }
@@ -24,6 +26,7 @@ fn plus(a: i32, b: i32) -> i32
     a + b
 }
 
+/// Folded value `i`.
 #[inline]
 #[tactic(auto, unfolding(crate::specs::Fold::folded))]
 fn entry(v: &[i32; 512], i: usize) -> i32
@@ -39,12 +42,17 @@ fn entry(v: &[i32; 512], i: usize) -> i32
     }
 }
 
-/// The cosines are odd about place 127 and a half, and even about place 383 and a half.
+/// Folds the 512 windowed samples `v` of a block, of at most 2^23 in magnitude, to the 256 values of at most 2^24 that have the same
+/// sums with the cosines of A/52 8.2.3.2: these are odd about place 127 and a half, and even about place 383 and a half.
+///
+/// `out[n]` is `v[n] - v[255 - n]` for n below 128, and `out[n - 128]` is `v[n] + v[767 - n]` for n from 256 to 383.
 pub fn fold(v: &[i32; 512], out: &mut [i32; 256])
     requires { Within (2 ^ 23) 512 v.now }
     ensures value { Lists 256 (folded v.now) out.new }
-    ensures low { (n : ℕ) → n < 128 → slice_index_or out.new n (pos 0) ≡ slice_index_or v.now n (pos 0) -ℤ slice_index_or v.now (255 - n) (pos 0) }
-    ensures high { (n : ℕ) → 256 ≤ n → n < 384 → slice_index_or out.new (n - 128) (pos 0) ≡ slice_index_or v.now n (pos 0) +ℤ slice_index_or v.now (767 - n) (pos 0) }
+    ensures low { (n : ℕ) → n < 128
+        → slice_index_or out.new n (pos 0) ≡ slice_index_or v.now n (pos 0) -ℤ slice_index_or v.now (255 - n) (pos 0) }
+    ensures high { (n : ℕ) → 256 ≤ n → n < 384
+        → slice_index_or out.new (n - 128) (pos 0) ≡ slice_index_or v.now n (pos 0) +ℤ slice_index_or v.now (767 - n) (pos 0) }
     ensures bound { Within (2 ^ 24) 256 out.new }
 {
     for i in 0..256 {

@@ -1,14 +1,13 @@
-// Odd phases as powers of five. Modulo 2048 each odd number is a power of five, or the opposite of
-// one, so a sum over odd phases times an odd factor is a sum over neighbours in the table of the
-// cosines of the powers.
+//! Odd phases as powers of five. Modulo 2048 each odd number is a power of five, or the opposite of one, so a sum over odd
+//! phases times an odd factor is a sum over neighbours in the list of the cosines of the powers.
 ghost use Rattle.std.specs.Prelude.{◌≡◌, ◌<◌, ◌≤◌, ◌^◌, ◌+◌, ◌*◌, ◌%◌, ◌*ℤ◌, ◌⊎◌, ℕ, ℤ, pos, neg_ℤ, unsigned_abs, slice_index, slice_index_or};
 ghost use Rattle.ac_base.specs.Sigma.{Within, sigma};
 ghost use Rattle.ac_base.specs.Cosine.{cosine_at};
-ghost use Rattle.ac_mdct.specs.Powers.{IsPowers, log_of, forward_pick, inverse_pick, turned_by, forward_spun, inverse_spun};
+ghost use Rattle.ac_mdct.specs.Powers.{log_of, forward_pick, inverse_pick, turned_by, forward_spun, inverse_spun};
 ghost use Rattle.ac_base.specs.Sigma.{Lists};
 ghost use Rattle.ac_mdct.specs.Place.{place};
 
-// 2h + 1, or its opposite, is this power of five modulo 2048
+/// 2h + 1, or its opposite, is this power of five modulo 2048.
 static LOG: [u16; 512] = [
     0, 163, 1, 202, 326, 213, 495, 164, 412, 407, 365, 142, 2, 489, 379, 392, 376, 203, 281, 146,
     254, 317, 327, 172, 404, 63, 261, 214, 58, 209, 339, 16, 496, 499, 305, 346, 438, 165, 415,
@@ -39,7 +38,7 @@ static LOG: [u16; 512] = [
     257, 419, 256,
 ];
 
-// the entry whose odd number has the logarithm b, or b + 256
+/// The folded value whose odd number has the logarithm b, or b + 256.
 static FORWARD: [u8; 256] = [
     255, 253, 243, 193, 71, 229, 4, 22, 112, 50, 3, 17, 87, 202, 116, 70, 224, 29, 108, 30, 103, 5,
     27, 118, 80, 237, 163, 206, 119, 85, 212, 89, 192, 66, 204, 126, 120, 90, 187, 41, 48, 13, 67,
@@ -56,6 +55,7 @@ static FORWARD: [u8; 256] = [
     45, 28, 113, 55, 149, 235, 153,
 ];
 
+/// The coefficient whose odd number has the logarithm b, or b + 256.
 static INVERSE: [u8; 256] = [
     0, 2, 12, 62, 199, 26, 132, 150, 240, 178, 131, 145, 215, 53, 244, 198, 31, 157, 236, 158, 231,
     133, 155, 246, 208, 18, 92, 49, 247, 213, 43, 217, 63, 194, 51, 254, 248, 218, 68, 169, 176,
@@ -72,6 +72,7 @@ static INVERSE: [u8; 256] = [
     54, 239, 173, 156, 241, 183, 106, 20, 102,
 ];
 
+/// Entry `h` of the logarithms.
 #[inline]
 #[tactic(auto, unfolding(crate::specs::Powers::log_of))]
 fn log_entry(h: usize) -> u16
@@ -81,6 +82,7 @@ fn log_entry(h: usize) -> u16
     LOG[h]
 }
 
+/// The logarithm of 2h + 1, or of its opposite.
 #[inline]
 #[tactic(auto, using(crate::proofs::Spins::log_below))]
 pub fn log(h: usize) -> usize
@@ -91,6 +93,7 @@ pub fn log(h: usize) -> usize
     usize::from(log_entry(h))
 }
 
+/// The folded value that stands at logarithm `b`.
 #[inline]
 #[tactic(auto, unfolding(crate::specs::Powers::forward_pick))]
 fn forward_entry(b: usize) -> u8
@@ -100,6 +103,7 @@ fn forward_entry(b: usize) -> u8
     FORWARD[b]
 }
 
+/// The coefficient that stands at logarithm `b`.
 #[inline]
 #[tactic(auto, unfolding(crate::specs::Powers::inverse_pick))]
 fn inverse_entry(b: usize) -> u8
@@ -109,6 +113,7 @@ fn inverse_entry(b: usize) -> u8
     INVERSE[b]
 }
 
+/// The place that folded value `i` stands for: 0 to 127, then 256 to 383.
 #[inline]
 #[tactic(auto, unfolding(crate::specs::Place::place))]
 pub fn place_of(i: u8) -> usize
@@ -122,20 +127,7 @@ pub fn place_of(i: u8) -> usize
     }
 }
 
-/// The cosines of the powers of five.
-pub fn powers() -> [i32; 768]
-    ensures { IsPowers 768 result }
-{
-    let quarter = ac_base::quarter();
-    let mut table = [0i32; 768];
-    let mut p: u32 = 1;
-    for j in 0..768usize {
-        table[j] = ac_base::cosine(quarter, p);
-        p = p * 5 % 2048;
-    }
-    table
-}
-
+/// The number, or its opposite half a turn on.
 #[inline]
 #[tactic(auto, unfolding(crate::specs::Powers::turned_by))]
 fn turned(e: usize, u: i32) -> i32
@@ -146,6 +138,7 @@ fn turned(e: usize, u: i32) -> i32
     if e < 256 { u } else { -u }
 }
 
+/// The folded value at logarithm `b`, with its sign.
 #[inline]
 fn forward_item(u: &[i32; 256], b: usize) -> i32
     requires bound { Within (2 ^ 24) 256 u.now }
@@ -157,6 +150,7 @@ fn forward_item(u: &[i32; 256], b: usize) -> i32
     turned(log(place_of(i) + 128), u[i as usize])
 }
 
+/// The coefficient at logarithm `b`, with its sign.
 #[inline]
 fn inverse_item(u: &[i32; 256], b: usize) -> i32
     requires bound { Within (2 ^ 24) 256 u.now }
@@ -190,27 +184,28 @@ pub fn spin_inverse(u: &[i32; 256], out: &mut [i32; 256])
     }
 }
 
-/// The sum of products with the cosines of the powers from 5^a on.
-pub fn slid(w: &[i32; 256], table: &[i32; 768], a: usize) -> i64
+/// `-t`.
+#[inline]
+fn opposite(t: i64) -> i64
+    requires { unsigned_abs t ≤ 2 ^ 62 }
+    ensures value { result ≡ neg_ℤ t }
+    ensures bound { unsigned_abs result ≤ 2 ^ 62 }
+{
+    -t
+}
+
+/// The sum of products with the cosines of the powers from 5^a on, from the sums at 0 to 255.
+#[inline]
+pub fn power_sum(sums: &[i64; 256], w: &[i32; 256], a: usize) -> i64
+    requires sums { Lists 256 (λ k. sigma 256 (λ i. slice_index_or w.now i (pos 0) *ℤ cosine_at (5 ^ (i + k)))) sums.now }
     requires bound { Within (2 ^ 24) 256 w.now }
-    requires table { IsPowers 768 table.now }
     requires from { a < 512 }
     ensures value { result ≡ sigma 256 (λ b. slice_index_or w.now b (pos 0) *ℤ cosine_at (5 ^ (a + b))) }
     ensures bound { unsigned_abs result ≤ 2 ^ 62 }
 {
-    let mut sum: i64 = 0;
-    for b in 0..256 {
-        sum = ac_base::add_product(sum, w[b], entry(table, a + b));
+    if a < 256 {
+        sums[a]
+    } else {
+        opposite(sums[a - 256])
     }
-    sum
-}
-
-#[inline]
-fn entry(table: &[i32; 768], j: usize) -> i32
-    requires table { IsPowers 768 table.now }
-    requires place { j < 768 }
-    ensures value { result ≡ cosine_at (5 ^ j) }
-    ensures bound { unsigned_abs result ≤ 2 ^ 30 }
-{
-    table[j]
 }

@@ -44,7 +44,9 @@ fn constant<const N: usize>(value: i32) -> [i32; N]
 }
 
 #[test]
-fn sums_of_products_at_their_largest(rt: HostRuntime) {
+fn dot_at_bounds(rt: HostRuntime) {
+    let most = constant::<256>(1 << 24);
+    assert_eq!(rt; dot(&most, &constant::<256>(1 << 30)), 1i64 << 62);
     let few = constant::<256>(-(1 << 24));
     assert_eq!(rt; dot(&few, &constant::<256>(1 << 30)), -(1i64 << 62));
     let many = constant::<512>(1 << 23);

@@ -1,6 +1,6 @@
 ghost use Rattle.std.specs.Prelude.{◌≡◌, ◌≤◌, ◌<◌};
 ghost use Rattle.ac_base.specs.Shape.{IsSpan};
-ghost use Rattle.ac_expo.specs.Spans.{greatest_kind};
+ghost use Rattle.ac_base.specs.Spans.{greatest_kind};
 
 use super::*;
 use crate::expanding::expand;
@@ -119,83 +119,77 @@ fn exponent_group(rt: HostRuntime) {
     assert_eq!(rt; spelled.group_at(1), 62);
 }
 
-/// The greatest of all lists of `count` steps from `low` to `low + 3` that are within `least`, whose neighbours are
-/// within 2, and whose first step is at most `first`: by trying each.
-fn by_search(least: &[u8; 10], count: usize, low: u8, first: u8) -> [u8; 10]
-    requires count { count ≤ 10 }
-    requires low { low ≤ 20 }
-{
-    let mut most = [0; 10];
-    for list in 0..1u32 << (2 * count) {
-        let mut steps = [0; 10];
-        for k in 0..count {
-            steps[k] = low + ((list >> (2 * k)) & 3) as u8;
-        }
-        if is_one(&steps, least, count, first) {
-            for k in 0..count {
-                most[k] = most[k].max(steps[k]);
-            }
-        }
-    }
-    most
+/// The exponents from 0 to n, as bits.
+fn up_to(n: u8) -> u32 {
+    u32::MAX >> (31 - u32::from(n.min(24)))
 }
 
-fn is_one(steps: &[u8; 10], least: &[u8; 10], count: usize, first: u8) -> bool
-    requires { count ≤ 10 }
+/// The exponents within 2 of one of a set.
+fn near(set: u32) -> u32 {
+    set | (set << 1) | (set << 2) | (set >> 1) | (set >> 2)
+}
+
+/// What each step can have in any list of `count` steps that is within `least`, whose neighbours are within 2, and whose
+/// first step is at most `first`: a set of exponents, as bits.
+fn by_sets(least: &[u8; 256], count: usize, first: u8) -> [u32; 256]
+    requires { count ≤ 256 }
 {
-    for k in 0..count {
-        if steps[k] > least[k] {
-            return false;
-        }
-    }
+    let mut sets = [0; 256];
+    sets[0] = up_to(least[0].min(first));
     for k in 1..count {
-        if steps[k].abs_diff(steps[k - 1]) > 2 {
-            return false;
-        }
+        sets[k] = up_to(least[k]) & near(sets[k - 1]);
     }
-    steps[0] <= first
+    for k in (1..count).rev() {
+        sets[k - 1] &= near(sets[k]);
+    }
+    sets
 }
 
 #[test]
 fn no_other_list_is_greater(rt: HostRuntime) {
-    for (couple, c, kind, count, first) in [
-        (None, 2, 1, 7, 15),
-        (Some((2, 0)), 2, 2, 6, 255),
-        (Some((2, 0)), 2, 3, 3, 255),
-        (Some((0, 0)), 0, 3, 10, 15),
+    let mut draw: u32 = 1;
+    for (couple, c, kind, first) in [
+        (None, 0, 1, 15),
+        (None, 0, 2, 15),
+        (None, 0, 3, 15),
+        (Some((0, 0)), 0, 1, 15),
+        (Some((0, 0)), 0, 2, 15),
+        (Some((0, 0)), 0, 3, 15),
+        (Some((2, 0)), 2, 1, 24),
+        (Some((2, 0)), 2, 2, 24),
+        (Some((2, 0)), 2, 3, 24),
+        (None, 2, 1, 15),
     ] {
-        let span = span(&rt, 60, couple, c);
-        assert!(rt; kind >= 1 && kind <= kinds(span.lead) && count <= 10 && span.start < span.end);
-        for low in [0, 14] {
-            let mut draw: u32 = 1;
+        let span = span(&rt, 0, couple, c);
+        assert!(rt; kind >= 1 && kind <= kinds(span.lead) && span.start < span.end);
+        for low in [0, 12, 20] {
             let mut raw = [[24; 256]; 6];
-            let mut least = [low + 3; 10];
+            let mut least = [24; 256];
             for b in 2..4usize {
                 for k in usize::from(span.start)..usize::from(span.end) {
                     draw = draw.wrapping_mul(1_664_525).wrapping_add(1_013_904_223);
-                    let value = low + 3 - (draw >> 29).saturating_sub(4) as u8;
+                    let value = (low + (draw >> 28) as u8).min(24);
                     let at = step_in_test(kind, &span, k);
-                    assert!(rt; at < 10 && k < 256);
+                    assert!(rt; at < 256 && k < 256);
                     raw[b][k] = value;
                     least[at] = least[at].min(value);
                 }
             }
-            let most = by_search(&least, count, low, first);
+            let last = step_in_test(kind, &span, usize::from(span.end) - 1);
+            assert!(rt; last < 256);
+            let sets = by_sets(&least, last + 1, first);
             let mut out = [0; 256];
-            greatest(
-                &raw,
-                &Run {
-                    from: 2,
-                    to: 4,
-                    kind,
-                },
-                &span,
-                &mut out,
-            );
+            let run = Run {
+                from: 2,
+                to: 4,
+                kind,
+            };
+            greatest(&raw, &run, &span, &mut out);
             for k in usize::from(span.start)..usize::from(span.end) {
                 let at = step_in_test(kind, &span, k);
-                assert!(rt; at < 10 && k < 256);
-                assert_eq!(rt; out[k], most[at], "kind {kind}, bin {k}");
+                assert!(rt; at < 256 && k < 256);
+                let bits = 32 - sets[at].leading_zeros();
+                assert_eq!(rt; u32::from(out[k]) + 1, bits, "kind {kind}, bin {k}");
             }
         }
     }

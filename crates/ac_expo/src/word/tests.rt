@@ -1,6 +1,7 @@
 use super::*;
 use crate::laws::word_laws;
-use crate::run::{Run, runs};
+use crate::run::runs;
+use ac_base::{Run, run_laws};
 
 #[test]
 fn refused_word(rt: HostRuntime) {
@@ -30,6 +31,7 @@ fn first_and_last_word(rt: HostRuntime) {
         assert!(rt; Word::new(codes) == Some(word_at(i)), "word {i}");
     }
     word_laws();
+    run_laws();
 }
 
 #[test]

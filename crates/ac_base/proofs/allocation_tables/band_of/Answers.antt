@@ -3,7 +3,7 @@ use Rattle.ac_base.proofs.AllocationTables.{bands_small, band_starts_before, ban
 use Rattle.ac_base.proofs.allocation_tables.band_of.Goals as goal
 
 pub returns-clause-bound : goal.returns-clause-bound
-returns-clause-bound c = rw c.band_of_entry.ensures (bands_small c.args.bin (omega arith))
+returns-clause-bound c = let small = bands_small c.args.bin c.requires in rw c.band_of_entry.ensures (omega (arith, small))
 
 pub returns-clause-starts : goal.returns-clause-starts
 returns-clause-starts c = rw c.band_of_entry.ensures (band_starts_before c.args.bin (omega arith))

@@ -1,7 +1,7 @@
 use Rattle.std.proofs.Common.{◌≡◌, ◌≢◌, pos, to_z, of_z, w32, get_or-set_other, sym, ◌∙◌, refl, arith, rules}
 use Rattle.std.proofs.lemmas.Int.{ints}
-use Rattle.ac_base.specs.Quarter.{cosine_of, Holds}
-use Rattle.ac_base.proofs.Rules.{pair_zero, pair_one, pair_more, pair_next, cosine_is, holds_more}
+use Rattle.ac_base.specs.Quarter.{cosine_of}
+use Rattle.ac_base.proofs.Rules.{Holds, pair_zero, pair_one, pair_more, pair_next, cosine_is, holds_more}
 use Rattle.ac_base.proofs.Walk.{quarter_held}
 use Rattle.ac_base.proofs.cosine_table.cosines.Goals as goal
 

@@ -1,6 +1,7 @@
 use Rattle.std.proofs.Common.{◌≡◌, ◌≤◌, ◌^◌, length, pos, slice_index_or}
-use Rattle.ac_base.specs.Quarter.{pair_at, Holds}
+use Rattle.ac_base.specs.Quarter.{pair_at}
 use Rattle.ac_base.proofs.cosine_table.cosines.Given as goal
+use Rattle.ac_base.proofs.Rules.{Holds}
 
 abbrev pub invariant-loop-j : goal.invariant-loop-j
 invariant-loop-j l =

@@ -1,5 +1,5 @@
 use Rattle.std.proofs.Common.{◌+◌, ◌≡◌, ◌*◌, ◌^◌, ◌<◌, ◌++◌, length, take}
-use Rattle.ac_bits.specs.Bits.{bits, bits_of}
+use Rattle.ac_bits.specs.Bits.{frame_bytes, bits, bits_of}
 use Rattle.ac_bits.proofs.sink.flush.Given as goal
 
 abbrev pub invariant-loop-used : goal.invariant-loop-used
@@ -9,7 +9,7 @@ invariant-loop-used l =
       count : 8 * l.full + l.used ≡ 8 * l.fn.full + l.fn.used;
       small : l.used < 40;
       fits : l.held < 2 ^ l.used;
-      whole : length l.buf ≡ 3840;
+      whole : length l.buf ≡ frame_bytes;
     }
 
 abbrev pub decreases-loop-used : goal.decreases-loop-used

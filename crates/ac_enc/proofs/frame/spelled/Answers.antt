@@ -11,6 +11,6 @@ returns-clause-value c =
       raw = c.raw_blocks.new.raw;
       is_raw = c.raw_blocks.ensures;
       exps = c.greatest.new.out;
-      is_exps = subst (λ (s : Span). IsByFormula 3 s c.raw_blocks.new.raw 0 6 c.greatest.new.out) is c.greatest.ensures.formula;
-      is_spelled = c.group.ensures.spelled ∙ ap (λ s. spelled_of 3 s c.greatest.new.out) is;
+      is_exps = subst (λ (s : Span). IsByFormula 3 s c.raw_blocks.new.raw 0 6 c.greatest.new.out) is c.greatest.ensures.value;
+      is_spelled = c.group.ensures.value ∙ ap (λ s. spelled_of 3 s c.greatest.new.out) is;
     }

@@ -16,13 +16,13 @@ write-requires-clause-within c = λ k inside.
     let e = c.sums_of-sums.ensures (step_of kind span k) (omega (arith, c.requires.count)) in
     (omega arith, omega arith)
 
-pub returns-in-None-clause-expanded : goal.returns-in-None-clause-expanded
-returns-in-None-clause-expanded c = λ k inside.
+pub returns-in-None-clause-value : goal.returns-in-None-clause-value
+returns-in-None-clause-value c = λ k inside.
     let kind = c.args.kind in
     let span = c.args.span.now in
     let at = (walk kind span c.requires.span c.requires.kind).0.within k inside.0 inside.1 in
     let e = c.sums_of-sums.ensures (step_of kind span k) (omega (arith, c.requires.count)) in
-    c.write.ensures.inside k inside ∙ ap (λ n. n - 2 * step_of kind span k) e
+    c.write.ensures.value k inside ∙ ap (λ n. n - 2 * step_of kind span k) e
 
 pub returns-in-None-clause-spellable : goal.returns-in-None-clause-spellable
 returns-in-None-clause-spellable c =
@@ -30,4 +30,4 @@ returns-in-None-clause-spellable c =
     let span = c.args.span.now in
     let spelled = c.args.spelled.now in
     let none : NoneRefused kind span spelled = c.in-None.ensures in
-    expanded_spellable kind span spelled c.write.new.out c.requires.span c.requires.kind c.requires.count c.requires.first none (returns-in-None-clause-expanded c)
+    expanded_spellable kind span spelled c.write.new.out c.requires.span c.requires.kind c.requires.count c.requires.first none (returns-in-None-clause-value c)

@@ -1,5 +1,5 @@
 use Rattle.std.proofs.Common.{◌≡◌, ℕ, ◌-◌, ◌*◌, ◌<◌, ◌≤◌, slice_index}
-use Rattle.ac_expo.specs.Spans.{IsIn}
+use Rattle.ac_base.specs.Spans.{IsIn}
 use Rattle.ac_expo.specs.Steps.{step_of}
 use Rattle.ac_expo.proofs.expanding.write.Given as goal
 

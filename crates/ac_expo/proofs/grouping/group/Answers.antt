@@ -1,5 +1,5 @@
 use Rattle.std.proofs.Common.{◌≡◌, ◌++◌, ◌∷◌, ℕ, List, [], length, slice_index, arith, ap, ap₂, sym, ◌∙◌}
-use Rattle.ac_expo.specs.Steps.{groups_of}
+use Rattle.ac_base.specs.Spans.{groups_of}
 use Rattle.ac_expo.specs.Spelling.{Spelling}
 use Rattle.ac_expo.specs.Groups.{first_of, groups_below, group_of, spelled_of}
 use Rattle.ac_expo.proofs.Places.{placed, first_small}
@@ -39,10 +39,10 @@ returns c =
     let e : c.loop-place.spelled ≡ spelled_of kind span exps = c.loop-place.invariant ∙ ap P done in
     let long : length c.loop-place.spelled.groups ≡ n = ap (λ (s : Spelling). length s.groups) e ∙ groups_long kind span exps n in
     record {
-      spelled = e;
+      value = e;
       first = (let f = first_small kind span exps p in let e1 = ap (λ (s : Spelling). s.first) e in omega arith);
       count = long;
-      small = λ place within.
+      bound = λ place within.
           let a = ap (λ (s : Spelling). slice_index s.groups place) e in
           let b = group_at kind span exps n place (omega arith) in
           let g = group_small kind span exps c.requires.span p place in

@@ -8,10 +8,10 @@ use Rattle.ac_expo.proofs.Minima.{small_take}
 use Rattle.ac_expo.proofs.lists.greatest.Goals as goal
 
 pub smooth-requires-clause-small : goal.smooth-requires-clause-small
-smooth-requires-clause-small c = small_take (3 * c.from.result + 1) c.cap.new.steps (omega arith) c.cap.ensures.small
+smooth-requires-clause-small c = small_take (3 * c.from.result + 1) c.cap.new.steps (omega arith) c.cap.ensures.bound
 
-pub returns-clause-formula : goal.returns-clause-formula
-returns-clause-formula c = λ k inside.
+pub returns-clause-value : goal.returns-clause-value
+returns-clause-value c = λ k inside.
     let span = c.args.span.now in
     let run = c.args.run.now in
     let count = 3 * c.from.result + 1 in
@@ -25,9 +25,9 @@ returns-clause-formula c = λ k inside.
     let smooth : slice_index c.smooth.new.steps g ≡ spread (count - 1) (slice_index (take count caps)) g =
     c.smooth.ensures g (omega arith) ∙ ap (λ n. spread (n - 1) (slice_index (take count caps)) g) long in
     let left = get_or_append_left c.smooth.new.steps (drop count caps) 0 g (omega (arith, c.smooth.auto.steps)) in
-    c.spread_out.ensures.inside k inside ∙ left
-    ∙ composed run.kind span c.args.raw.now run.from run.to count c.least_of_blocks-bins.result c.least_of_steps-steps.result caps c.smooth.new.steps whole room c.least_of_blocks-bins.ensures c.least_of_steps-steps.ensures.value c.cap.ensures.first c.cap.ensures.others g smooth
+    c.spread_out.ensures.value k inside ∙ left
+    ∙ composed run.kind span c.args.raw.now run.from run.to count c.least_of_blocks-bins.result c.least_of_steps-steps.result caps c.smooth.new.steps whole room c.least_of_blocks-bins.ensures c.least_of_steps-steps.ensures.value c.cap.ensures.first c.cap.ensures.rest g smooth
 
 pub returns-clause-greatest : goal.returns-clause-greatest
 returns-clause-greatest c =
-    formula c.args.run.now.kind c.args.span.now c.args.raw.now c.args.run.now.from c.args.run.now.to c.spread_out.new.out c.requires.span c.requires.kind (returns-clause-formula c)
+    formula c.args.run.now.kind c.args.span.now c.args.raw.now c.args.run.now.from c.args.run.now.to c.spread_out.new.out c.requires.span c.requires.kind (returns-clause-value c)

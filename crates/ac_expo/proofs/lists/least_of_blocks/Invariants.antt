@@ -1,5 +1,5 @@
 use Rattle.std.proofs.Common.{◌≡◌, ℕ, ◌-◌, slice_index}
-use Rattle.ac_expo.specs.Spans.{IsIn}
+use Rattle.ac_base.specs.Spans.{IsIn}
 use Rattle.ac_expo.specs.Greatest.{bin_least}
 use Rattle.ac_expo.proofs.lists.least_of_blocks.Given as goal
 

@@ -1,6 +1,6 @@
 use Rattle.std.proofs.Common.{◌≡◌, ℕ, ◌<◌, ◌≤◌, pos, slice_index, slice_index_or}
 use Rattle.ac_expo.specs.Raw.{raw_of}
-use Rattle.ac_expo.specs.Spans.{IsIn}
+use Rattle.ac_base.specs.Spans.{IsIn}
 use Rattle.ac_expo.proofs.raws.write_row.Given as goal
 
 abbrev pub invariant-loop-k : goal.invariant-loop-k

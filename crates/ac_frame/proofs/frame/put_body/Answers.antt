@@ -53,4 +53,4 @@ returns-clause-bytes c =
     (rows-then block (later ++ tail) c.put_first_block.ensures.bits
     (rows-then later tail (appends_as c.put_later_blocks.ensures.bits (ap (λ n. spell (later_rows n)) c.bits_to_skip.ensures))
     (appends_as c.put_tail.ensures.bits (ap (λ n. spell (tail_rows n c.args.crcrsv)) aux)))) in
-    c.bytes.ensures.bytes ∙ (t.whole ∙ ap (λ l. l ++ spell (head ++ (block ++ (later ++ tail)))) c.new-sink.ensures)
+    c.bytes.ensures.value ∙ (t.whole ∙ ap (λ l. l ++ spell (head ++ (block ++ (later ++ tail)))) c.new-sink.ensures)

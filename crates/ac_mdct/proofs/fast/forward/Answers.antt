@@ -13,10 +13,10 @@ loop-k-preserved c =
     let xs = c.args.prev.now ++ c.args.now.now in
     let w = c.spin_forward.new.out in
     let fits : SFits w32 c.coefficient_of.result = search rules in
-    let fits_sum : SFits w64 c.slid.result = search rules in
+    let fits_sum : SFits w64 c.power_sum.result = search rules in
     let chain = forward_chain xs c.windowed.new.out c.fold.new.out w c.loop-k.k c.loop-k-test.true c.windowed.ensures.value c.fold.ensures.value c.spin_forward.ensures.value in
-    let sum : c.slid.result ≡ forward_sum (windowed (c.args.prev.now ++ c.args.now.now)) c.loop-k.k =
-    c.slid.ensures.value ∙ ap (λ a. sigma 256 (λ b. slice_index_or w b (pos 0) *ℤ cosine_at (5 ^ (a + b)))) c.log.ensures.value ∙ chain in
+    let sum : c.power_sum.result ≡ forward_sum (windowed (c.args.prev.now ++ c.args.now.now)) c.loop-k.k =
+    c.power_sum.ensures.value ∙ ap (λ a. sigma 256 (λ b. slice_index_or w b (pos 0) *ℤ cosine_at (5 ^ (a + b)))) c.log.ensures.value ∙ chain in
     let is = simp to_z-of_z at c.coefficient_of.ensures in
     let value : c.coefficient_of.result ≡ coefficient (forward_sum (windowed (c.args.prev.now ++ c.args.now.now)) c.loop-k.k) = is ∙ ap coefficient sum in
     let room : c.loop-k.k < length c.loop-k.out = omega arith in (

@@ -10,8 +10,8 @@ returns-clause-count c =
     let len : 8 * s.full + s.used ≡ length c.args.self.now = sym (length-view s.buf s.full s.held s.used (omega (arith, c.self.told, c.self.invariant))) ∙ ap length c.self.view_is in
     omega (arith, len)
 
-pub returns-clause-bytes : goal.returns-clause-bytes
-returns-clause-bytes c =
+pub returns-clause-value : goal.returns-clause-value
+returns-clause-value c =
     let s = c.self.inside in
     let len : 8 * s.full + s.used ≡ length c.args.self.now = sym (length-view s.buf s.full s.held s.used (omega (arith, c.self.told, c.self.invariant))) ∙ ap length c.self.view_is in
     let none : s.used ≡ 0 = omega (arith, len) in

@@ -1,0 +1,12 @@
+pub mod Powers
+pub mod Pointers
+pub mod Rounding
+pub mod Values
+pub mod Coming
+pub mod Numbers
+pub mod Costs
+pub mod Reading
+pub mod Grouping
+pub mod Whole
+pub mod Spelled
+pub mod Clauses

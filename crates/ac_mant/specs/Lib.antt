@@ -1,0 +1,4 @@
+pub mod Counts
+pub mod Groups
+pub mod Quantiser
+pub mod Unpacking

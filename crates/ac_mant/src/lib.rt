@@ -1,0 +1,18 @@
+//! Mantissas (A/52 7.3): the quantiser and the values of its codes, the groups in which small codes go, and what a block
+//! costs.
+#![tactic(auto)]
+
+mod ahead;
+mod coded;
+mod counts;
+mod held;
+mod packing;
+mod quantiser;
+mod unpacking;
+
+pub use coded::{Coded, MantFault};
+pub use counts::{Counts, cost_laws, exact, sixths};
+pub use packing::pack_block;
+pub use quantiser::{quantise, value};
+pub use unpacking::unpack_block;
+
