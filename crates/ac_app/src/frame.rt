@@ -3,6 +3,7 @@ ghost use Rattle.std.specs.Prelude.{◌≡◌, ℕ, ◌+◌, ◌*◌, ◌^◌, �
 ghost use Rattle.ac_base.specs.Rates.{IsRate};
 ghost use Rattle.ac_base.specs.Sigma.{Within};
 ghost use Rattle.ac_base.specs.Sizes.{frame_words_of};
+ghost use Rattle.ac_bits.specs.Bits.{frame_bytes};
 ghost use Rattle.ac_enc.specs.Frame.{IsFrame};
 ghost use Rattle.ac_app.specs.Sound.{Sound};
 ghost use Rattle.ac_app.specs.Stream.{places};
@@ -11,6 +12,7 @@ ghost use Rattle.ac_app.specs.Frames.{RoseAt, FrameLeaves, IsLast, IsOwn, first_
 
 use crate::emit::{Broken, emit};
 use crate::work::Work;
+use ac_bits::FRAME_BYTES;
 use ac_enc::encode_frame;
 use ac_io::Sink;
 use ac_words::Options;
@@ -29,13 +31,13 @@ fn encode(
     i: u32,
     last: &mut [i32; 256],
     pcm: &[i32; 1536],
-    out: &mut [u8; 3840],
+    out: &mut [u8; FRAME_BYTES],
 ) -> usize
     requires rate { IsRate options.rate }
     requires sampling { fscod ≤ 2 }
     requires last { Within (2 ^ 23) 256 last.old }
     requires pcm { Within (2 ^ 23) 1536 pcm.now }
-    ensures most { result ≤ 3840 }
+    ensures count { result ≤ frame_bytes }
     ensures value { (s : Sound) → s.fscod ≡ fscod → IsLast s 0 i last.old → IsOwn s 0 i pcm.now
         → IsFrame options.rate fscod i (places s 0 i) (take result out.new) × IsLast s 0 (i + 1) last.new }
     ensures bound { Within (2 ^ 23) 256 last.new }

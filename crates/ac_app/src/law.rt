@@ -27,7 +27,7 @@ pub fn stream_law()
     ensures heads { (o : Options) (i : ℕ) (x : Sound) (frame line other another : List ℕ) → IsRate o.rate → x.fscod ≤ 2
         → AreBytes frame → AreBytes other → IsFrameAt o x i frame line → IsFrameAt o x i other another
         → take 4 (drop 4 frame) ≡ take 4 (drop 4 other) }
-    ensures told { (o : Options) (k : ℕ) (x y : Sound) (stream lines : List ℕ) → Continues x (1536 * k) y
+    ensures depends { (o : Options) (k : ℕ) (x y : Sound) (stream lines : List ℕ) → Continues x (1536 * k) y
         → IsStream o x k stream lines ↔ IsStream o y k stream lines }
 {}
 

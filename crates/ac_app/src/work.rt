@@ -2,6 +2,7 @@
 ghost use Rattle.std.specs.Prelude.{◌≡◌, ℕ, IfOk, replicate, pos};
 ghost use Rattle.ac_app.specs.Frames.{first_row};
 
+use ac_bits::FRAME_BYTES;
 use std::alloc::{AllocError, Global};
 
 /// What encode keeps between two frames, and the arrays that it works in.
@@ -12,13 +13,13 @@ pub struct Work {
     /// The last 256 samples of the frame before.
     pub last: [i32; 256],
     /// The bytes of a frame.
-    pub bytes: [u8; 3840],
+    pub bytes: [u8; FRAME_BYTES],
 }
 
 static BLANK: Work = Work {
     rows: [[0; 1536]; 6],
     last: [0; 256],
-    bytes: [0; 3840],
+    bytes: [0; FRAME_BYTES],
 };
 
 /// All the memory that encode takes, in one piece, with the 256 zeros before the first sample.

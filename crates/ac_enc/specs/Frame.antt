@@ -1,8 +1,8 @@
 -- The frame of a mono sound (A/52 5.3): offset 0, exponents D45 in block 0 and reuse after it, which is this project's choice.
 -- The sound of a frame is the 256 places before it, and its own 1,536 (A/52 8.2.3).
-use Rattle.std.specs.Prelude.{◌≡◌, ℕ, zero, suc, nat_eq, if◌then◌else◌, ◌+◌, ◌-◌, ◌*◌, ◌<◌, min, None, List, [], ◌++◌, slice_index, slice_index_or, ℤ, pos}
+use Rattle.std.specs.Prelude.{◌≡◌, ℕ, zero, suc, nat_eq, if◌then◌else◌, ◌+◌, ◌-◌, ◌*◌, ◌<◌, min, List, [], ◌++◌, slice_index, slice_index_or, ℤ, pos}
 use Rattle.ac_base.specs.Rates.{HasCode}
-use Rattle.ac_base.specs.Shape.{full_span}
+use Rattle.ac_base.specs.Shape.{free_span}
 use Rattle.ac_base.specs.Sizes.{frame_words_of, table_words}
 use Rattle.ac_base.specs.Window.{window_of}
 use Rattle.ac_base.specs.declared.spans.Span.{Span}
@@ -31,7 +31,7 @@ bandwidth rate = min (rate - 20) 60
 
 -- the bins of the channel (A/52 7.1.3)
 abbrev pub mono_span : ℕ → Span
-mono_span rate = full_span (bandwidth rate) None
+mono_span rate = free_span (bandwidth rate)
 
 -- the exponents of all six blocks, grouped as they are sent (A/52 7.1.3): D45 on the raw exponents of x
 pub record IsSpelled (rate : ℕ) (x : ℕ → ℤ) (spelled : Spelling) : Type 0 where

@@ -1,42 +1,40 @@
 //! One frame.
 ghost use Rattle.std.specs.Prelude.{◌≡◌, ℕ, ◌*◌, ◌+◌, ◌-◌, ◌^◌, ◌<◌, ◌≤◌, List, length, slice_index, take, drop};
 ghost use Rattle.ac_base.specs.Rates.{IsRate, HasCode};
-ghost use Rattle.ac_base.specs.Shape.{IsSpan};
 ghost use Rattle.ac_base.specs.Sigma.{Within};
 ghost use Rattle.ac_base.specs.Sizes.{frame_words_of};
 ghost use Rattle.ac_base.specs.Spans.{groups_of};
+ghost use Rattle.ac_bits.specs.Bits.{frame_bytes};
 ghost use Rattle.ac_enc.specs.Frame.{bandwidth, mono_span, size_code, IsSpelled, IsFrame, joined};
 
 use crate::raw::raw_blocks;
-use ac_base::{Lead, Span, frame_words, rate_code};
+use ac_base::{frame_words, free_span, rate_code};
+use ac_bits::FRAME_BYTES;
 use ac_expo::{Run, Spelled, greatest, group};
 use ac_frame::{Size, plain};
 
-/// All six blocks, by the strategy D45 in block 0 and reuse after it (A/52 5.4.3.22).
+/// The strategy D45, by its code (A/52 5.4.3.22).
+const D45: u8 = 3;
+
+/// All six blocks: D45 in block 0 and reuse after it.
 const WHOLE: Run = Run {
     from: 0,
     to: 6,
-    kind: 3,
+    kind: D45,
 };
+
+/// The greatest bandwidth code (A/52 5.4.3.24).
+const MOST_CHBWCOD: u16 = 60;
+
+/// The kbit/s of a channel at which the bandwidth code is 0, this project's own.
+const NARROWEST: u16 = 20;
 
 /// The bandwidth code chbwcod at a bit rate in kbit/s (A/52 5.4.3.24).
 fn bandwidth_code(rate: u16) -> u8
     ensures value { result ≡ bandwidth rate }
     ensures bound { result ≤ 60 }
 {
-    rate.saturating_sub(20).min(60) as u8
-}
-
-/// The bins of the channel (A/52 7.1.3).
-fn span_of(rate: u16) -> Span
-    ensures value { result ≡ mono_span rate }
-    ensures span { IsSpan result }
-{
-    Span {
-        start: 0,
-        end: 37 + 3 * (bandwidth_code(rate) + 12),
-        lead: Lead::Free,
-    }
+    rate.saturating_sub(NARROWEST).min(MOST_CHBWCOD) as u8
 }
 
 /// The exponents of the frame, grouped as they are sent.
@@ -45,10 +43,10 @@ fn spelled(rate: u16, last: &[i32; 256], pcm: &[i32; 1536]) -> Spelled
     requires pcm { Within (2 ^ 23) 1536 pcm.now }
     ensures value { IsSpelled rate (joined last.now pcm.now) result }
     ensures first { result.first ≤ 15 }
-    ensures count { length result.groups ≡ groups_of 3 (mono_span rate) }
-    ensures small { (place : ℕ) → place < length result.groups → slice_index result.groups place ≤ 124 }
+    ensures len { length result.groups ≡ groups_of 3 (mono_span rate) }
+    ensures bound { (place : ℕ) → place < length result.groups → slice_index result.groups place ≤ 124 }
 {
-    let span = span_of(rate);
+    let span = free_span(bandwidth_code(rate));
     let mut raw = [[0; 256]; 6];
     raw_blocks(last, pcm, &mut raw);
     let mut exps = [0; 256];
@@ -76,7 +74,7 @@ fn size_of(rate: u16, fscod: u8, frame: u64) -> Size
     ensures fscod { result.fscod ≡ fscod }
     ensures code { (code : ℕ) × HasCode rate code × (result.frmsizecod ≡ size_code rate fscod frame code) }
     ensures words { result.words ≡ frame_words_of rate fscod frame }
-    ensures bw { result.bw ≡ bandwidth rate }
+    ensures chbwcod { result.bw ≡ bandwidth rate }
 {
     Size {
         fscod,
@@ -99,16 +97,16 @@ pub fn encode_frame(
     frame: u64,
     last: &[i32; 256],
     pcm: &[i32; 1536],
-    out: &mut [u8; 3840],
+    out: &mut [u8; FRAME_BYTES],
 ) -> usize
     requires rate { IsRate rate }
     requires sampling { fscod ≤ 2 }
     requires frame { frame < 2 ^ 32 }
     requires last { Within (2 ^ 23) 256 last.now }
     requires pcm { Within (2 ^ 23) 1536 pcm.now }
-    ensures size { result ≡ 2 * frame_words_of rate fscod frame }
-    ensures most { result ≤ 3840 }
-    ensures frame { IsFrame rate fscod frame (joined last.now pcm.now) (take result out.new) }
+    ensures value { result ≡ 2 * frame_words_of rate fscod frame }
+    ensures count { result ≤ frame_bytes }
+    ensures front { IsFrame rate fscod frame (joined last.now pcm.now) (take result out.new) }
     ensures rest { drop result out.new ≡ drop result out.old }
 {
     let spelled = spelled(rate, last, pcm);

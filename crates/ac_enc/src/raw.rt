@@ -34,7 +34,7 @@ fn places(last: &[i32; 256], pcm: &[i32; 1536], b: usize) -> [i32; 256]
     requires block { b < 7 }
     requires last { Within (2 ^ 23) 256 last.now }
     requires pcm { Within (2 ^ 23) 1536 pcm.now }
-    ensures long { length result ≡ 256 }
+    ensures len { length result ≡ 256 }
     ensures value { Lists 256 (λ n. joined last.now pcm.now (256 * b + n)) result }
     ensures bound { Within (2 ^ 23) 256 result }
 {

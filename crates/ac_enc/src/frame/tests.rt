@@ -12,7 +12,7 @@ fn heads_of_silence(rt: HostRuntime) {
     frame_law();
     for (rate, size, frmsizecod) in [(32u16, 128usize, 0u8), (192, 768, 20), (640, 2560, 36)] {
         assert!(rt; is_rate(rate));
-        let mut out = [0xff; 3840];
+        let mut out = [0xff; FRAME_BYTES];
         let n = encode_frame(rate, 0, 0, &[0; 256], &[0; 1536], &mut out);
         assert_eq!(rt; n, size);
         assert_eq!(rt; [out[0], out[1]], [0x0b, 0x77], "at {rate}");
@@ -31,7 +31,7 @@ fn check_size(rt: &impl Abort, rate: u16, fscod: u8, frame: u64, size: usize, co
     requires sampling { fscod ≤ 2 }
     requires frame { frame < 2 ^ 32 }
 {
-    let mut out = [0xff; 3840];
+    let mut out = [0xff; FRAME_BYTES];
     let n = encode_frame(rate, fscod, frame, &[0; 256], &[0; 1536], &mut out);
     assert_eq!(rt; n, size, "frame {frame}");
     assert_eq!(rt; out[4], codes, "frame {frame}");

@@ -6,7 +6,7 @@ use Rattle.ac_app.proofs.frame.encode.Goals as goal
 pub returns-clause-value : goal.returns-clause-value
 returns-clause-value c = λ s same before own.
     let number : c.from.result ≡ c.args.i = search rules in
-    let is = subst (λ (n : ℕ). IsFrame c.args.options.rate c.args.fscod n (joined c.args.last.now c.args.pcm.now) (take c.encode_frame-size.result c.encode_frame-size.new.out)) number c.encode_frame-size.ensures.frame in (
+    let is = subst (λ (n : ℕ). IsFrame c.args.options.rate c.args.fscod n (joined c.args.last.now c.args.pcm.now) (take c.encode_frame-size.result c.encode_frame-size.new.out)) number c.encode_frame-size.ensures.front in (
       frame_told c.args.options.rate c.args.fscod s c.args.i c.args.last.now c.args.pcm.now (take c.encode_frame-size.result c.encode_frame-size.new.out) c.told-last before own is,
       last_next s 0 c.args.i c.args.pcm.now c.keep_last.new.last c.keep_last.ensures own,
     )

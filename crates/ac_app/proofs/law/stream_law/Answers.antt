@@ -7,5 +7,5 @@ returns c = record {
   front = λ o k more x stream lines p. let f = split o k more x stream lines p in (f.front, f.said, f.back, f.later, f.is, f.stream, f.report);
   frame = frame_in;
   heads = heads;
-  told = λ o k x y stream lines same. (told o k x y stream lines same, told o k y x stream lines (turned x y _ same));
+  depends = λ o k x y stream lines same. (told o k x y stream lines same, told o k y x stream lines (turned x y _ same));
 }

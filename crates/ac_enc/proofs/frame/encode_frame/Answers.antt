@@ -6,5 +6,5 @@ use Rattle.ac_enc.proofs.frame.encode_frame.Goals as goal
 pub plain-requires-clause-count : goal.plain-requires-clause-count
 plain-requires-clause-count c =
     ap length c.groups.ensures
-    ∙ (c.spelled-spelled.ensures.count
-    ∙ (groups_are c.args.rate ∙ sym (ap (λ bw. d45_groups (end_bin bw)) c.size_of.ensures.bw)))
+    ∙ (c.spelled-spelled.ensures.len
+    ∙ (groups_are c.args.rate ∙ sym (ap (λ bw. d45_groups (end_bin bw)) c.size_of.ensures.chbwcod)))

@@ -1,12 +1,13 @@
 use Rattle.std.proofs.Common.{subst, ap, ◌∙◌}
 use Rattle.ac_base.specs.declared.spans.Span.{Span}
+use Rattle.ac_base.specs.Shape.{free_span}
 use Rattle.ac_expo.specs.Greatest.{IsByFormula}
 use Rattle.ac_expo.specs.Groups.{spelled_of}
 use Rattle.ac_enc.proofs.frame.spelled.Goals as goal
 
 pub returns-clause-value : goal.returns-clause-value
 returns-clause-value c =
-    let is = c.span_of-span.ensures.value in
+    let is = c.free_span-span.ensures.value ∙ ap free_span c.bandwidth_code.ensures.value in
     record {
       raw = c.raw_blocks.new.raw;
       is_raw = c.raw_blocks.ensures;

@@ -16,11 +16,11 @@ returns-clause-both_parts c = whole
 pub returns-clause-one : goal.returns-clause-one
 returns-clause-one c = one
 
-pub returns-clause-told : goal.returns-clause-told
-returns-clause-told c = λ rate fscod i x y frame same. (frame_same rate fscod i x y frame same, frame_same rate fscod i y x frame (λ p below. sym (same p below)))
+pub returns-clause-depends : goal.returns-clause-depends
+returns-clause-depends c = λ rate fscod i x y frame same. (frame_same rate fscod i x y frame same, frame_same rate fscod i y x frame (λ p below. sym (same p below)))
 
-pub returns-clause-kept : goal.returns-clause-kept
-returns-clause-kept c = kept
+pub returns-clause-keeps_rate : goal.returns-clause-keeps_rate
+returns-clause-keeps_rate c = kept
 
 pub returns-clause-listed : goal.returns-clause-listed
 returns-clause-listed c = listed
