@@ -1,21 +1,21 @@
 -- The walk over the chunks stays before the data of the head that it comes to.
-use Rattle.std.proofs.Common.{◌≡◌, ◌≢◌, ℕ, ◌+◌, ◌≤◌, ◌<◌, List, length, take, drop, Option, Some, None, inl, inr, refl, sym, ap, subst, ◌∙◌, arith}
+use Rattle.std.proofs.Common.{◌≡◌, ◌≢◌, ℕ, ◌+◌, ◌≤◌, ◌<◌, List, take, drop, Option, Some, None, inl, inr, refl, sym, ap, ◌∙◌, arith}
 use Rattle.std.specs.Prelude.{codes, min, Result, Ok, Err, MatchResult, IfErr, IsErrOf}
 use Rattle.std.proofs.lemmas.Bool.{cases_lt, cases_eq}
-use Rattle.ac_io.specs.Within.{IsAt, StandsIn, TakesAtMost}
+use Rattle.ac_io.specs.Within.{StandsIn, TakesAtMost}
 use Rattle.ac_io.proofs.Limits.{at_most}
 use Rattle.ac_riff.specs.declared.fault.WavFault.{WavFault}
 use Rattle.ac_riff.specs.declared.fault.WavFault.TheVariants.{Bad, ReadFault, TooLong}
 use Rattle.ac_riff.specs.declared.fault.WavKind.TheVariants.{Short, NoData}
 use Rattle.ac_riff.specs.declared.head.WavHead.{WavHead}
-use Rattle.ac_riff.specs.Form.{name_of, size_of, whole_length, IsOpen, IsFormatted, IsHead}
+use Rattle.ac_riff.specs.Form.{name_of, size_of, whole_length, IsHead}
 use Rattle.ac_riff.specs.Refusal.{Reaches, IsStopped, RefusalLeaves, HeadRead}
 use Rattle.ac_riff.proofs.Chunks.{open_least, start_least}
 use Rattle.ac_riff.proofs.Endings as endings
 use Rattle.ac_riff.proofs.Fronts.{head_place, head_cut, taken_within}
-use Rattle.ac_riff.proofs.Stops.{names_differ, open_next, formatted_next}
+use Rattle.ac_riff.proofs.Stops.{open_next, formatted_next}
 use Rattle.ac_riff.proofs.Unique.{open_before}
-use Rattle.ac_riff.proofs.Ways.{GoesOn, formatted_has, none_earlier, one_start, one_chunk, begins_name, begins_size, formatted_long, passed_goes, formatted_before}
+use Rattle.ac_riff.proofs.Ways.{formatted_has, none_earlier, begins_name, begins_size, formatted_long, passed_goes, formatted_before}
 
 -- ---- bounds on what was taken
 
