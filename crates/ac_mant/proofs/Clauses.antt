@@ -1,10 +1,10 @@
 -- What a call that read so gives.
-use Rattle.std.proofs.Common.{◌≡◌, ◌⊎◌, ℕ, ◌≤◌, Bool, true, false, List, [], ◌++◌, length, Result, Ok, Err, OnOk, IfErr, refl, inl, inr, ap, sym, subst, ◌∙◌, arith}
+use Rattle.std.proofs.Common.{◌≡◌, ℕ, Bool, true, false, List, [], ◌++◌, length, Result, Ok, Err, OnOk, IfErr, refl, inl, inr, ap, sym, subst, ◌∙◌}
 use Rattle.ac_mant.specs.declared.coded.MantFault.{MantFault}
 use Rattle.ac_mant.specs.Groups.{AreCoded, Fill, IsFill, closed, pairs, spelled, Refuses}
 use Rattle.ac_mant.specs.Unpacking.{nothing, read_from, CodesGive}
 use Rattle.ac_mant.proofs.Grouping.{IsHeld}
-use Rattle.ac_mant.proofs.Whole.{AreLowPointers, Reads, Fails, reads, refused_reads}
+use Rattle.ac_mant.proofs.Whole.{AreLowPointers, reads, refused_reads}
 use Rattle.ac_mant.proofs.Spelled.{pairs_read}
 
 codes_got : Result (List ℕ × List Bool) MantFault → List ℕ
@@ -47,12 +47,13 @@ found_of (Ok done) baps out old new low gives =
     elim (reads baps nothing 0 old nothing_held low) [
       | inl r ↦
           let codes : r.codes ≡ out = same_codes (sym r.read ∙ gives) in
-          let rest : r.rest ≡ new = same_bits (sym r.read ∙ gives) in
-          (r.reading.fill,
-          r.reading.is_fill,
-          subst (λ (c : List ℕ). length c ≡ length baps) codes r.reading.long,
-          subst (λ (c : List ℕ). AreCoded (pairs baps c)) codes r.reading.are,
-          subst (λ (c : List ℕ). old ≡ spelled r.reading.fill closed (pairs baps c) ++ new) codes (subst (λ (b : List Bool). old ≡ spelled r.reading.fill closed (pairs baps r.codes) ++ b) rest r.reading.whole))
+          let rest : r.rest ≡ new = same_bits (sym r.read ∙ gives) in (
+            r.reading.fill,
+            r.reading.is_fill,
+            subst (λ (c : List ℕ). length c ≡ length baps) codes r.reading.long,
+            subst (λ (c : List ℕ). AreCoded (pairs baps c)) codes r.reading.are,
+            subst (λ (c : List ℕ). old ≡ spelled r.reading.fill closed (pairs baps c) ++ new) codes (subst (λ (b : List Bool). old ≡ spelled r.reading.fill closed (pairs baps r.codes) ++ b) rest r.reading.whole),
+          )
       | inr f ↦ absurd (never_both (sym gives ∙ f.read))
     ]
 found_of (Err fault) baps out old new low gives = tt

@@ -16,3 +16,5 @@ pub use packing::pack_block;
 pub use quantiser::{quantise, value};
 pub use unpacking::unpack_block;
 
+#[cfg(test)]
+mod tests;
