@@ -2,6 +2,7 @@
 use Rattle.std.proofs.Common.{◌≡◌, ℕ, Bool, true, false, List, [], ◌++◌, length, Result, Ok, Err, OnOk, IfErr, refl, inl, inr, ap, sym, subst, ◌∙◌}
 use Rattle.ac_mant.specs.declared.coded.MantFault.{MantFault}
 use Rattle.ac_mant.specs.Groups.{AreCoded, Fill, IsFill, closed, pairs, spelled, Refuses}
+use Rattle.ac_mant.specs.Laws.{OneReading}
 use Rattle.ac_mant.specs.Unpacking.{nothing, read_from, CodesGive}
 use Rattle.ac_mant.proofs.Grouping.{IsHeld}
 use Rattle.ac_mant.proofs.Whole.{AreLowPointers, reads, refused_reads}
@@ -75,3 +76,10 @@ refused_of (Err fault) baps out old new low gives =
 pub refuses_of : (result : Result Unit MantFault) (baps out : List ℕ) (old new : List Bool) → CodesGive result out new (read_from nothing 0 baps old) → (fault : MantFault) → Refuses closed 0 baps old fault → result ≡ Err fault
 refuses_of (Ok done) baps out old new gives fault refuses = absurd (never_both (sym gives ∙ refused_reads baps nothing 0 old fault refuses))
 refuses_of (Err other) baps out old new gives fault refuses = ap (λ e. Err e) (same_fault (sym gives ∙ refused_reads baps nothing 0 old fault refuses))
+
+pub one_reading : OneReading
+one_reading baps codes others fill filled rest left is also long as_long are too same =
+    let l = spelled filled closed (pairs baps others) ++ left in
+    let first = pairs_read baps codes fill l rest long is are (sym same) in
+    let second = pairs_read baps others filled l left as_long also too refl in
+    (same_codes (sym first ∙ second), same_bits (sym first ∙ second))
