@@ -1,10 +1,11 @@
 -- What a call that read so gives.
-use Rattle.std.proofs.Common.{◌≡◌, ◌⊎◌, ℕ, ◌≤◌, Bool, true, false, List, [], ◌++◌, length, Result, Ok, Err, OnOk, IfErr, refl, inl, inr, ap, sym, subst, ◌∙◌, arith}
+use Rattle.std.proofs.Common.{◌≡◌, ℕ, Bool, true, false, List, [], ◌++◌, length, Result, Ok, Err, OnOk, IfErr, refl, inl, inr, ap, sym, subst, ◌∙◌}
 use Rattle.ac_mant.specs.declared.coded.MantFault.{MantFault}
 use Rattle.ac_mant.specs.Groups.{AreCoded, Fill, IsFill, closed, pairs, spelled, Refuses}
+use Rattle.ac_mant.specs.Laws.{OneReading}
 use Rattle.ac_mant.specs.Unpacking.{nothing, read_from, CodesGive}
 use Rattle.ac_mant.proofs.Grouping.{IsHeld}
-use Rattle.ac_mant.proofs.Whole.{AreLowPointers, Reads, Fails, reads, refused_reads}
+use Rattle.ac_mant.proofs.Whole.{AreLowPointers, reads, refused_reads}
 use Rattle.ac_mant.proofs.Spelled.{pairs_read}
 
 codes_got : Result (List ℕ × List Bool) MantFault → List ℕ
@@ -47,12 +48,13 @@ found_of (Ok done) baps out old new low gives =
     elim (reads baps nothing 0 old nothing_held low) [
       | inl r ↦
           let codes : r.codes ≡ out = same_codes (sym r.read ∙ gives) in
-          let rest : r.rest ≡ new = same_bits (sym r.read ∙ gives) in
-          (r.reading.fill,
-          r.reading.is_fill,
-          subst (λ (c : List ℕ). length c ≡ length baps) codes r.reading.long,
-          subst (λ (c : List ℕ). AreCoded (pairs baps c)) codes r.reading.are,
-          subst (λ (c : List ℕ). old ≡ spelled r.reading.fill closed (pairs baps c) ++ new) codes (subst (λ (b : List Bool). old ≡ spelled r.reading.fill closed (pairs baps r.codes) ++ b) rest r.reading.whole))
+          let rest : r.rest ≡ new = same_bits (sym r.read ∙ gives) in (
+            r.reading.fill,
+            r.reading.is_fill,
+            subst (λ (c : List ℕ). length c ≡ length baps) codes r.reading.long,
+            subst (λ (c : List ℕ). AreCoded (pairs baps c)) codes r.reading.are,
+            subst (λ (c : List ℕ). old ≡ spelled r.reading.fill closed (pairs baps c) ++ new) codes (subst (λ (b : List Bool). old ≡ spelled r.reading.fill closed (pairs baps r.codes) ++ b) rest r.reading.whole),
+          )
       | inr f ↦ absurd (never_both (sym gives ∙ f.read))
     ]
 found_of (Err fault) baps out old new low gives = tt
@@ -74,3 +76,10 @@ refused_of (Err fault) baps out old new low gives =
 pub refuses_of : (result : Result Unit MantFault) (baps out : List ℕ) (old new : List Bool) → CodesGive result out new (read_from nothing 0 baps old) → (fault : MantFault) → Refuses closed 0 baps old fault → result ≡ Err fault
 refuses_of (Ok done) baps out old new gives fault refuses = absurd (never_both (sym gives ∙ refused_reads baps nothing 0 old fault refuses))
 refuses_of (Err other) baps out old new gives fault refuses = ap (λ e. Err e) (same_fault (sym gives ∙ refused_reads baps nothing 0 old fault refuses))
+
+pub one_reading : OneReading
+one_reading baps codes others fill filled rest left is also long as_long are too same =
+    let l = spelled filled closed (pairs baps others) ++ left in
+    let first = pairs_read baps codes fill l rest long is are (sym same) in
+    let second = pairs_read baps others filled l left as_long also too refl in
+    (same_codes (sym first ∙ second), same_bits (sym first ∙ second))

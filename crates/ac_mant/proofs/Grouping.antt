@@ -1,5 +1,5 @@
 -- Codes and the numbers of their groups, both ways.
-use Rattle.std.proofs.Common.{◌≡◌, ◌≢◌, ℕ, zero, suc, ◌+◌, ◌-◌, ◌*◌, ◌/◌, ◌%◌, ◌^◌, ◌<◌, ◌≤◌, Bool, true, false, List, [], ◌∷◌, ◌++◌, length, slice_index, arith, refl, inl, inr, ap, sym, subst, ◌∙◌}
+use Rattle.std.proofs.Common.{◌≡◌, ℕ, ◌-◌, ◌/◌, ◌%◌, ◌<◌, false, List, ◌∷◌, ◌++◌, length, slice_index, arith, refl, inl, inr, ap, sym, subst}
 use Rattle.std.specs.Prelude.{◌==◌, if◌then◌else◌}
 use Rattle.std.proofs.lemmas.Bool.{cases_eq}
 use Rattle.std.proofs.lemmas.Bool.Decides.{nat_tests}
@@ -8,10 +8,9 @@ use Rattle.ac_mant.specs.declared.coded.Coded.{Coded}
 use Rattle.ac_mant.specs.declared.held.Codes.{Codes}
 use Rattle.ac_mant.specs.declared.held.Codes.TheVariants.{None, One, Two}
 use Rattle.ac_mant.specs.declared.held.Held.{Held}
-use Rattle.ac_mant.specs.Quantiser.{levels, width, code_limit, IsCode}
-use Rattle.ac_mant.specs.Groups.{IsCoded, AreCoded, Fill, IsFill, coded, pairs, after, coming, triple, pair, number, number_width, number_limit, first_limit, first_number, spelled}
+use Rattle.ac_mant.specs.Quantiser.{levels, code_limit, IsCode}
+use Rattle.ac_mant.specs.Groups.{Fill, coded, after, coming, triple, pair, number, number_limit, first_limit, first_number}
 use Rattle.ac_mant.specs.Unpacking.{codes_in, ahead_in, of_three, of_two, opened}
-use Rattle.ac_mant.proofs.Coming.{limit_of_1, limit_of_2, limit_of_4}
 
 -- the codes that are held stand at the front of a list
 abbrev pub Begins : Codes → List ℕ → Type 0
@@ -205,5 +204,5 @@ step_awaits h v f xs is =
     record {
       one = subst (λ (l : List ℕ). Begins h.one (l ++ f.one)) (sym (coming_other 1 bap code xs not_1)) kept.one;
       two = subst (λ (l : List ℕ). Begins h.two (l ++ f.two)) (sym (coming_other 2 bap code xs not_2)) kept.two;
-      four = subst (λ (l : List ℕ). Begins h.four (l ++ f.four)) (sym (coming_other 4 bap code xs not_4)) kept.four
+      four = subst (λ (l : List ℕ). Begins h.four (l ++ f.four)) (sym (coming_other 4 bap code xs not_4)) kept.four;
     })

@@ -1,12 +1,12 @@
 -- The numbers that stand at mantissas: how wide they are, and that they fit.
-use Rattle.std.proofs.Common.{◌≡◌, ◌≢◌, ℕ, zero, suc, ◌+◌, ◌*◌, ◌^◌, ◌<◌, ◌≤◌, Bool, true, List, [], ◌∷◌, ◌++◌, slice_index, arith, refl, inl, inr, subst, sym}
-use Rattle.std.specs.Prelude.{◌==◌, ◌||◌, if◌then◌else◌, nat_le, nat_eq}
+use Rattle.std.proofs.Common.{◌≡◌, ◌≢◌, ℕ, ◌^◌, ◌<◌, ◌≤◌, List, [], ◌∷◌, arith, refl, inl, inr, subst}
+use Rattle.std.specs.Prelude.{◌||◌, nat_le, nat_eq}
 use Rattle.std.proofs.lemmas.Bool.{cases_eq}
 use Rattle.std.proofs.lemmas.Bool.Decides.{nat_tests}
 use Rattle.ac_base.specs.Counts.{code_width}
 use Rattle.ac_base.proofs.Tests.{all_below-at}
 use Rattle.ac_mant.specs.Quantiser.{levels, width, code_limit}
-use Rattle.ac_mant.specs.Groups.{IsCoded, AreCoded, coming, zeros, triple, pair, number, number_width}
+use Rattle.ac_mant.specs.Groups.{IsCoded, AreCoded, zeros, number, number_width}
 use Rattle.ac_mant.specs.declared.ahead.Ahead.{Ahead}
 use Rattle.ac_mant.specs.declared.coded.Coded.{Coded}
 use Rattle.ac_mant.proofs.Coming.{coming_below, limit_of_1, limit_of_2, limit_of_4}

@@ -1,6 +1,6 @@
 -- The quantisers of each pointer, read off the tables.
-use Rattle.std.proofs.Common.{◌≡◌, ℕ, ◌+◌, ◌-◌, ◌^◌, ◌<◌, ◌≤◌, true, List, [], ◌∷◌, slice_index, refl, arith, subst, sym}
-use Rattle.std.specs.Prelude.{◌&&◌, nat_le, nat_eq}
+use Rattle.std.proofs.Common.{◌≡◌, ℕ, ◌+◌, ◌-◌, ◌≤◌, true, List, [], ◌∷◌, slice_index, refl, arith, subst}
+use Rattle.std.specs.Prelude.{nat_le, nat_eq}
 use Rattle.std.proofs.lemmas.Bool.Decides.{nat_tests}
 use Rattle.ac_base.proofs.Tests.{all_below-at}
 use Rattle.ac_mant.specs.Quantiser.{levels, width, code_limit}

@@ -1,9 +1,8 @@
 -- Powers of two, and floors by them.
-use Rattle.std.proofs.Common.{◌≡◌, ℕ, zero, suc, ◌+◌, ◌-◌, ◌*◌, ◌/◌, ◌^◌, ◌<◌, ◌≤◌, ℤ, pos, negsuc, unsigned_abs, arith, sym, ◌∙◌, ap}
+use Rattle.std.proofs.Common.{◌≡◌, ℕ, zero, suc, ◌+◌, ◌-◌, ◌*◌, ◌^◌, ◌<◌, ◌≤◌, ℤ, pos, negsuc, unsigned_abs, arith, sym, ◌∙◌, ap}
 use Rattle.std.proofs.Math.Nat.{div-le_of_le-mul, div-lt_iff_lt-mul, pow-suc, mul_comm}
 use Rattle.std.proofs.lemmas.Nat.{pow-add}
 use Rattle.ac_base.specs.Floor.{floor_div}
-use Rattle.ac_base.proofs.Powers.{pow_le}
 
 -- two powers together
 pub powers_join : (i j k : ℕ) → i + j ≡ k → 2 ^ i * 2 ^ j ≡ 2 ^ k

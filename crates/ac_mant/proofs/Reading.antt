@@ -1,6 +1,6 @@
 -- A number that was taken.
 use Rattle.std.proofs.Common.{◌≡◌, ◌⊎◌, ℕ, ◌+◌, ◌^◌, ◌<◌, ◌≤◌, Bool, true, false, List, [], ◌∷◌, ◌++◌, append_assoc, append-nil, length, take, drop, Result, Ok, Err, arith, refl, inl, inr, ap, sym, subst, ◌∙◌}
-use Rattle.std.specs.Prelude.{nat_lt, nat_le, if◌then◌else◌}
+use Rattle.std.specs.Prelude.{nat_lt, nat_le}
 use Rattle.std.proofs.lemmas.Bool.{cases_lt}
 use Rattle.std.proofs.lemmas.Bool.Decides.{nat_tests}
 use Rattle.std.proofs.lemmas.List.{length-append, length-take-le, take-append-drop}
@@ -80,6 +80,6 @@ cases_take w l =
             v = num (take w l);
             rest = drop w l;
             fits = subst (λ (n : ℕ). num (take w l) < 2 ^ n) long (num_below (take w l));
-            whole = sym (take-append-drop w l) ∙ ap (λ b. b ++ drop w l) (sym front)
+            whole = sym (take-append-drop w l) ∙ ap (λ b. b ++ drop w l) (sym front);
           })
     ]

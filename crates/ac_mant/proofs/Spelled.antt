@@ -1,6 +1,6 @@
 -- What was packed is read back.
-use Rattle.std.proofs.Common.{◌≡◌, ◌≢◌, ◌⊎◌, ℕ, zero, suc, ◌+◌, ◌*◌, ◌/◌, ◌%◌, ◌^◌, ◌<◌, ◌≤◌, Bool, true, false, List, [], ◌∷◌, ◌++◌, append_assoc, length, slice_index, Result, Ok, Err, arith, refl, inl, inr, ap, sym, subst, ◌∙◌}
-use Rattle.std.specs.Prelude.{◌==◌, ◌||◌, if◌then◌else◌, nat_eq, nat_le}
+use Rattle.std.proofs.Common.{◌≡◌, ℕ, zero, suc, ◌+◌, ◌^◌, ◌<◌, ◌≤◌, Bool, false, List, [], ◌∷◌, ◌++◌, append_assoc, length, slice_index, Ok, arith, refl, inl, inr, ap, sym, subst, ◌∙◌}
+use Rattle.std.specs.Prelude.{◌==◌, ◌||◌, nat_eq, nat_le}
 use Rattle.std.proofs.lemmas.Bool.{cases_eq}
 use Rattle.std.proofs.lemmas.Bool.Decides.{nat_tests}
 use Rattle.ac_base.specs.Counts.{code_width}
@@ -8,12 +8,11 @@ use Rattle.ac_base.proofs.Tests.{all_below-at}
 use Rattle.ac_bits.specs.Bits.{bits}
 use Rattle.ac_mant.specs.declared.ahead.Ahead.{Ahead}
 use Rattle.ac_mant.specs.declared.coded.Coded.{Coded}
-use Rattle.ac_mant.specs.declared.coded.MantFault.{MantFault}
 use Rattle.ac_mant.specs.declared.held.Codes.{Codes}
 use Rattle.ac_mant.specs.declared.held.Codes.TheVariants.{None, One, Two}
 use Rattle.ac_mant.specs.declared.held.Held.{Held}
 use Rattle.ac_mant.specs.Quantiser.{levels, width, code_limit}
-use Rattle.ac_mant.specs.Groups.{IsCoded, AreCoded, Fill, IsFill, closed, pairs, pointers, after, coming, triple, pair, first_number, first_width, first_limit, number, number_width, number_limit, spelled}
+use Rattle.ac_mant.specs.Groups.{AreCoded, Fill, IsFill, closed, pairs, pointers, after, coming, triple, pair, first_number, first_width, first_limit, number, number_width, number_limit, spelled}
 use Rattle.ac_mant.specs.Unpacking.{nothing, codes_in, ahead_in, of_three, of_two, opened, read_number, read_from}
 use Rattle.std.specs.List.{All}
 use Rattle.std.proofs.lemmas.List.Elements.{All-head, All-tail}
@@ -121,7 +120,7 @@ to_come : (f : Fill) (xs : List Coded) → IsFill f → AreCoded xs → AreToCom
 to_come f xs is are = record {
   one = λ i. coming_item 1 3 xs f.one i (limit_of_1 1 refl) are is.one;
   two = λ i. coming_item 2 5 xs f.two i (limit_of_2 2 refl) are is.two;
-  four = λ i. coming_item 4 11 xs f.four i (limit_of_4 4 refl) are is.four
+  four = λ i. coming_item 4 11 xs f.four i (limit_of_4 4 refl) are is.four;
 }
 
 record OneRead (h : Held) (f : Fill) (bap code : ℕ) (xs : List Coded) (v : ℕ) : Type 0 where
@@ -142,12 +141,12 @@ one_other h f bap code xs not_1 not_2 not_4 here awaits =
     let kept : Awaits h f xs = record {
       one = subst (λ (l : List ℕ). Begins h.one (l ++ f.one)) (coming_other 1 bap code xs not_1) awaits.one;
       two = subst (λ (l : List ℕ). Begins h.two (l ++ f.two)) (coming_other 2 bap code xs not_2) awaits.two;
-      four = subst (λ (l : List ℕ). Begins h.four (l ++ f.four)) (coming_other 4 bap code xs not_4) awaits.four
+      four = subst (λ (l : List ℕ). Begins h.four (l ++ f.four)) (coming_other 4 bap code xs not_4) awaits.four;
     } in
     record {
       low = subst (λ (n : ℕ). n < number_limit (ahead_in h) bap) (sym is) (subst (λ (n : ℕ). code < n) (sym (own_limit (ahead_in h) bap not_1 not_2 not_4)) here);
       same = other_code h v bap not_1 not_2 not_4 ∙ is;
-      awaits = subst (λ (g : Held). Awaits g f xs) (sym (other_held h v bap not_1 not_2 not_4)) kept
+      awaits = subst (λ (g : Held). Awaits g f xs) (sym (other_held h v bap not_1 not_2 not_4)) kept;
     }
 
 one_read : (h : Held) (f : Fill) (code : ℕ) (xs : List Coded) → AreToCome f xs → (bap : ℕ) → code < code_limit bap → Awaits h f (record { bap = bap; code = code } ∷ xs) → OneRead h f bap code xs (number f (ahead_in h) (record { bap = bap; code = code }) xs)
@@ -157,17 +156,17 @@ one_read h f code xs come =
     (λ here awaits. record {
       low = low3 h.one code (coming 1 xs ++ f.one) here come.one;
       same = code3 h.one code (coming 1 xs ++ f.one) come.one awaits.one;
-      awaits = record { one = begins3 h.one code (coming 1 xs ++ f.one) come.one awaits.one; two = awaits.two; four = awaits.four }
+      awaits = record { one = begins3 h.one code (coming 1 xs ++ f.one) come.one awaits.one; two = awaits.two; four = awaits.four };
     })
     (λ here awaits. record {
       low = low5 h.two code (coming 2 xs ++ f.two) here come.two;
       same = code5 h.two code (coming 2 xs ++ f.two) come.two awaits.two;
-      awaits = record { one = awaits.one; two = begins5 h.two code (coming 2 xs ++ f.two) come.two awaits.two; four = awaits.four }
+      awaits = record { one = awaits.one; two = begins5 h.two code (coming 2 xs ++ f.two) come.two awaits.two; four = awaits.four };
     })
     (λ here awaits. record {
       low = low11 h.four code (coming 4 xs ++ f.four) here come.four;
       same = code11 h.four code (coming 4 xs ++ f.four) come.four awaits.four;
-      awaits = record { one = awaits.one; two = awaits.two; four = begins11 h.four code (coming 4 xs ++ f.four) come.four awaits.four }
+      awaits = record { one = awaits.one; two = awaits.two; four = begins11 h.four code (coming 4 xs ++ f.four) come.four awaits.four };
     })
     (λ bap not_1 not_2 not_4 here awaits. one_other h f bap code xs not_1 not_2 not_4 here awaits)
 
@@ -184,10 +183,10 @@ spelled_reads (x ∷ xs) h k f rest is are awaits =
     let behind = spelled f (after (ahead_in h) x.bap) xs ++ rest in
     let split = append_assoc (bits v w) (spelled f (after (ahead_in h) x.bap) xs) rest in
     let here : read_number k w (number_limit (ahead_in h) x.bap) (spelled f (ahead_in h) (x ∷ xs) ++ rest) ≡ Ok (v, behind) =
-        ap (λ b. read_number k w (number_limit (ahead_in h) x.bap) b) split ∙ read_low k w (number_limit (ahead_in h) x.bap) v behind fits one.low in
+    ap (λ b. read_number k w (number_limit (ahead_in h) x.bap) b) split ∙ read_low k w (number_limit (ahead_in h) x.bap) v behind fits one.low in
     let next = spelled_reads xs (opened h x.bap v).1 (k + 1) f rest is are.1 one.awaits in
     let later : read_from (opened h x.bap v).1 (k + 1) (pointers xs) behind ≡ Ok (codes_of xs, rest) =
-        subst (λ (a : Ahead). read_from (opened h x.bap v).1 (k + 1) (pointers xs) (spelled f a xs ++ rest) ≡ Ok (codes_of xs, rest)) (opened_ahead h v x.bap) next in
+    subst (λ (a : Ahead). read_from (opened h x.bap v).1 (k + 1) (pointers xs) (spelled f a xs ++ rest) ≡ Ok (codes_of xs, rest)) (opened_ahead h v x.bap) next in
     step_ok h k x.bap v (pointers xs) (spelled f (ahead_in h) (x ∷ xs) ++ rest) behind (Ok (codes_of xs, rest)) here later
     ∙ ap (λ c. Ok (c ∷ codes_of xs, rest)) one.same
 

@@ -1,15 +1,13 @@
 -- Values stay within the scale of coefficients.
-use Rattle.std.proofs.Common.{◌≡◌, ℕ, ◌+◌, ◌-◌, ◌*◌, ◌/◌, ◌^◌, ◌<◌, ◌≤◌, ℤ, pos, negsuc, ◌+ℤ◌, ◌-ℤ◌, ◌*ℤ◌, unsigned_abs, arith, sym, subst, ◌∙◌, ap, refl, inl, inr}
-use Rattle.std.specs.Prelude.{nat_le, if◌then◌else◌}
+use Rattle.std.proofs.Common.{ℕ, ◌+◌, ◌-◌, ◌*◌, ◌^◌, ◌<◌, ◌≤◌, pos, ◌-ℤ◌, ◌*ℤ◌, unsigned_abs, arith, inl, inr}
 use Rattle.std.proofs.lemmas.Bool.{cases_lt}
 use Rattle.std.proofs.lemmas.Bool.Decides.{nat_tests}
 use Rattle.std.proofs.lemmas.Int.{ints, unsigned_abs-mul}
 use Rattle.std.proofs.lemmas.Nat.{mul-le}
-use Rattle.ac_base.specs.Floor.{floor_div}
 use Rattle.ac_base.proofs.Powers.{pow_le}
 use Rattle.ac_mant.specs.Quantiser.{levels, width, IsCode, signed, middle, multiple, value_of}
 use Rattle.ac_mant.proofs.Powers.{powers_join, floor_within}
-use Rattle.ac_mant.proofs.Pointers.{levels_least, levels_most, width_least, width_most}
+use Rattle.ac_mant.proofs.Pointers.{width_least, width_most}
 use Rattle.ac_mant.proofs.Rounding.{signed_within}
 
 off_within : (code levels : ℕ) → code < levels → unsigned_abs (pos (2 * code + 1) -ℤ pos levels) ≤ levels

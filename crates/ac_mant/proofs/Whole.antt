@@ -1,8 +1,7 @@
 -- What the bits of a block's mantissas are read as.
-use Rattle.std.proofs.Common.{◌≡◌, ◌⊎◌, ℕ, zero, suc, ◌+◌, ◌^◌, ◌<◌, ◌≤◌, Bool, List, [], ◌∷◌, ◌++◌, append_assoc, length, slice_index, Result, Ok, Err, arith, refl, inl, inr, ap, sym, subst, ◌∙◌}
+use Rattle.std.proofs.Common.{◌≡◌, ◌⊎◌, ℕ, zero, suc, ◌+◌, ◌<◌, ◌≤◌, Bool, List, [], ◌∷◌, ◌++◌, append_assoc, length, slice_index, Result, Ok, Err, arith, refl, inl, inr, ap, sym, subst, ◌∙◌}
 use Rattle.std.proofs.lemmas.Bool.{cases_lt}
 use Rattle.ac_bits.specs.Bits.{bits}
-use Rattle.ac_mant.specs.declared.coded.Coded.{Coded}
 use Rattle.ac_mant.specs.declared.coded.MantFault.{MantFault}
 use Rattle.ac_mant.specs.declared.coded.MantFault.TheVariants.{OutOfBits, BadGroup}
 use Rattle.ac_mant.specs.declared.ahead.Ahead.{Ahead}
@@ -11,8 +10,8 @@ use Rattle.ac_mant.specs.declared.held.Codes.TheVariants.{None, One, Two}
 use Rattle.ac_mant.specs.declared.held.Held.{Held}
 use Rattle.ac_mant.specs.Groups.{AreCoded, Fill, IsFill, coded, pairs, after, number, number_width, number_limit, spelled, Refuses}
 use Rattle.ac_mant.specs.Unpacking.{codes_in, ahead_in, opened, read_number, read_from, with_front}
-use Rattle.ac_mant.proofs.Reading.{Taken, cases_take, read_low, read_high, read_short}
-use Rattle.ac_mant.proofs.Grouping.{Begins, AreLow, IsPair, IsHeld, Awaits, opened_ahead, step_held, step_code, step_number, step_awaits}
+use Rattle.ac_mant.proofs.Reading.{cases_take, read_low, read_high, read_short}
+use Rattle.ac_mant.proofs.Grouping.{Begins, AreLow, IsHeld, Awaits, opened_ahead, step_held, step_code, step_number, step_awaits}
 
 -- the bits are those of these codes, and of a fill of the last groups
 pub record IsReading (h : Held) (baps codes : List ℕ) (l rest : List Bool) : Type 0 where
@@ -46,12 +45,12 @@ nothing_left h l is = record {
   is_fill = record {
     one = λ i. held_low 3 h.one i (omega arith) is.one;
     two = λ i. held_low 5 h.two i (omega arith) is.two;
-    four = λ i. held_low 11 h.four i (omega arith) is.four
+    four = λ i. held_low 11 h.four i (omega arith) is.four;
   };
   long = refl;
   are = tt;
   whole = refl;
-  awaits = record { one = held_begins h.one; two = held_begins h.two; four = held_begins h.four }
+  awaits = record { one = held_begins h.one; two = held_begins h.two; four = held_begins h.four };
 }
 
 -- one mantissa in front
@@ -69,11 +68,11 @@ one_more h v bap baps codes l mid rest is most low whole r =
       long = ap (λ n. suc n) r.long;
       are = (record { pointer = most; code = step_code h v is bap low }, r.are);
       whole =
-        whole
-        ∙ ap (λ b. b ++ mid) front
-        ∙ ap (λ b. bits (number r.fill (ahead_in h) (coded bap code) xs) (number_width (ahead_in h) bap) ++ b) behind
-        ∙ sym (append_assoc (bits (number r.fill (ahead_in h) (coded bap code) xs) (number_width (ahead_in h) bap)) (spelled r.fill (after (ahead_in h) bap) xs) rest);
-      awaits = awaits
+          whole
+          ∙ ap (λ b. b ++ mid) front
+          ∙ ap (λ b. bits (number r.fill (ahead_in h) (coded bap code) xs) (number_width (ahead_in h) bap) ++ b) behind
+          ∙ sym (append_assoc (bits (number r.fill (ahead_in h) (coded bap code) xs) (number_width (ahead_in h) bap)) (spelled r.fill (after (ahead_in h) bap) xs) rest);
+      awaits = awaits;
     }
 
 -- ---- either codes, or the first fault
@@ -124,13 +123,13 @@ reads (bap ∷ baps) h k l is most =
                         codes = (opened h bap t.v).0 ∷ r.codes;
                         rest = r.rest;
                         read = step_ok h k bap t.v baps l t.rest (Ok (r.codes, r.rest)) here r.read;
-                        reading = one_more h t.v bap baps r.codes l t.rest r.rest is most.0 low t.whole r.reading
+                        reading = one_more h t.v bap baps r.codes l t.rest r.rest is most.0 low t.whole r.reading;
                       })
                   | inr f ↦
                       inr (record {
                         fault = f.fault;
                         read = step_ok h k bap t.v baps l t.rest (Err f.fault) here f.read;
-                        refuses = inr (t.v, t.rest, t.fits, t.whole, inr (low, subst (λ (a : Ahead). Refuses a (k + 1) baps t.rest f.fault) (opened_ahead h t.v bap) f.refuses))
+                        refuses = inr (t.v, t.rest, t.fits, t.whole, inr (low, subst (λ (a : Ahead). Refuses a (k + 1) baps t.rest f.fault) (opened_ahead h t.v bap) f.refuses));
                       })
                 ]
             | inr high ↦

@@ -1,5 +1,5 @@
 -- Counts of mantissas as the tallies of `ac_base` (A/52 7.3.5).
-use Rattle.std.specs.Prelude.{◌≡◌, ℕ, ◌*◌, ◌<◌, ◌≤◌, ◌^◌}
+use Rattle.std.specs.Prelude.{ℕ, ◌*◌, ◌<◌, ◌≤◌}
 use Rattle.ac_base.specs.Counts.{Tally, exact_of, sixths_of}
 use Rattle.ac_mant.specs.declared.counts.Counts.{Counts}
 

@@ -1,5 +1,5 @@
 -- How the bits of mantissas are read, one after the other: this project's own way to the codes of A/52 7.3.5.
-use Rattle.std.specs.Prelude.{◌≡◌, ℕ, ◌+◌, ◌*◌, ◌/◌, ◌%◌, ◌<◌, ◌≤◌, ◌==◌, if◌then◌else◌, nat_lt, nat_le, Bool, List, [], ◌∷◌, ◌++◌, length, take, drop, Result, Ok, Err}
+use Rattle.std.specs.Prelude.{◌≡◌, ℕ, ◌+◌, ◌*◌, ◌/◌, ◌%◌, ◌==◌, if◌then◌else◌, nat_lt, nat_le, Bool, List, [], ◌∷◌, ◌++◌, length, take, drop, Result, Ok, Err}
 use Rattle.ac_bits.specs.Bits.{num}
 use Rattle.ac_mant.specs.declared.ahead.Ahead.{Ahead}
 use Rattle.ac_mant.specs.declared.coded.MantFault.{MantFault}

@@ -31,7 +31,11 @@ pub fn none() -> Ahead
 fn turned(size: u8, left: u8) -> u8
     ensures { result ≡ turn size left }
 {
-    if left == 0 { size.saturating_sub(1) } else { left - 1 }
+    if left == 0 {
+        size.saturating_sub(1)
+    } else {
+        left - 1
+    }
 }
 
 /// After one mantissa more.
@@ -98,7 +102,7 @@ const OWN_LIMITS: [u32; 16] = [
 /// The same, of a code of its own.
 #[inline]
 #[tactic(auto, unfolding(crate::specs::Quantiser::levels, crate::specs::Quantiser::width), using(crate::proofs::Pointers::limit_listed))]
-fn own_limit(bap: u8) -> u32
+pub fn own_limit(bap: u8) -> u32
     requires { bap ≤ 15 }
     ensures { result ≡ code_limit bap }
 {

@@ -56,5 +56,4 @@ pub fn sixths(c: &Counts) -> u32
 pub fn cost_laws()
     ensures sixths { SixthsAreWithin }
     ensures falls { ExactCostCanFall }
-{
-}
+{}

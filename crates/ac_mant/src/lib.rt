@@ -6,13 +6,17 @@ mod ahead;
 mod coded;
 mod counts;
 mod held;
+mod laws;
 mod packing;
 mod quantiser;
 mod unpacking;
 
 pub use coded::{Coded, MantFault};
 pub use counts::{Counts, cost_laws, exact, sixths};
+pub use laws::reading_law;
 pub use packing::pack_block;
 pub use quantiser::{quantise, value};
 pub use unpacking::unpack_block;
 
+#[cfg(test)]
+mod tests;

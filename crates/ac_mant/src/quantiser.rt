@@ -308,7 +308,10 @@ fn middle_of(code: u16, levels: u8, e: u8) -> i64
     requires code { code < levels }
     ensures { result ≡ middle levels code e }
 {
-    quotient(twice_off(code, levels), product(i64::from(levels), i64::from(power(e))))
+    quotient(
+        twice_off(code, levels),
+        product(i64::from(levels), i64::from(power(e))),
+    )
 }
 
 /// The value of a code, as a whole number.

@@ -12,12 +12,7 @@ use ac_bits::BitSource;
 
 /// A number of so many bits below a limit; `place` is that of its mantissa.
 #[inline]
-fn read_number(
-    source: &mut BitSource,
-    width: u8,
-    limit: u32,
-    place: u16,
-) -> Result<u16, MantFault>
+fn read_number(source: &mut BitSource, width: u8, limit: u32, place: u16) -> Result<u16, MantFault>
     requires width { width ≤ 16 }
     ensures { NumberGives result source.new (read_number place width limit source.old) }
 {
@@ -32,12 +27,7 @@ fn read_number(
 
 /// The number that stands at a mantissa: none is read where it was sent ahead.
 #[inline]
-fn number_at(
-    source: &mut BitSource,
-    held: Held,
-    bap: u8,
-    place: u16,
-) -> Result<u16, MantFault>
+fn number_at(source: &mut BitSource, held: Held, bap: u8, place: u16) -> Result<u16, MantFault>
     requires { bap ≤ 15 }
     ensures { NumberGives result source.new (read_number place (number_width (ahead_in held) bap) (number_limit (ahead_in held) bap) source.old) }
 {
@@ -73,11 +63,7 @@ fn read_codes(baps: &[u8], out: &mut [u16], source: &mut BitSource) -> Result<()
 /// `BadGroup` exactly where the first number that stands for no codes comes before any that isn't whole, with the place of its
 /// first mantissa; `OutOfBits` exactly where the next number isn't whole before any such one. Nothing is said then of `out` and of
 /// what the source has left.
-pub fn unpack_block(
-    baps: &[u8],
-    out: &mut [u16],
-    source: &mut BitSource,
-) -> Result<(), MantFault>
+pub fn unpack_block(baps: &[u8], out: &mut [u16], source: &mut BitSource) -> Result<(), MantFault>
     requires pointers { All (λ bap. bap ≤ 15) baps.now }
     requires lengths { length out.old ≡ length baps.now }
     requires most { length baps.now ≤ 65536 }

@@ -1,4 +1,4 @@
-use Rattle.std.proofs.Common.{◌≡◌, ◌<◌, ◌≤◌, ◌+◌, ℕ, List, ◌∷◌, ◌++◌, drop, length, get_or, refl, arith, rules, subst, sym, ap, ◌∙◌}
+use Rattle.std.proofs.Common.{◌≡◌, ◌≤◌, ◌+◌, List, ◌∷◌, ◌++◌, drop, length, get_or, refl, arith, subst, sym, ap, ◌∙◌}
 use Rattle.std.proofs.lemmas.List.{drop_more}
 use Rattle.std.proofs.Math.ListN.{drop_of_length-le}
 use Rattle.ac_bits.specs.Bits.{frame_bits}
@@ -19,8 +19,8 @@ pack_code-ahead-requires-clause-room c =
     let x = get_or c.args.list.now c.loop-i.i (coded 0 0) in
     let here = drop_more c.args.list.now c.loop-i.i (coded 0 0) c.loop-i-test.true in
     let whole =
-        lengths_meet c.loop-i.sink (spelled zeros c.loop-i.ahead (drop c.loop-i.i c.args.list.now)) c.args.sink.now (spelled zeros closed c.args.list.now) (length c.args.sink.now) _
-        c.loop-i.invariant.1 refl (whole_cost zeros c.args.list.now) in
+    lengths_meet c.loop-i.sink (spelled zeros c.loop-i.ahead (drop c.loop-i.i c.args.list.now)) c.args.sink.now (spelled zeros closed c.args.list.now) (length c.args.sink.now) _
+    c.loop-i.invariant.1 refl (whole_cost zeros c.args.list.now) in
     let room : length c.loop-i.sink + length (spelled zeros c.loop-i.ahead (drop c.loop-i.i c.args.list.now)) ≤ frame_bits = omega (arith, whole, c.requires.room) in
     let list = subst (λ (l : List Coded). length c.loop-i.sink + length (spelled zeros c.loop-i.ahead l) ≤ frame_bits) here room in
     subst (λ (l : List Coded). length c.loop-i.sink + length (spelled zeros c.loop-i.ahead (x ∷ l)) ≤ frame_bits) (sym c.behind.ensures) list
@@ -30,16 +30,16 @@ loop-i-preserved c =
     let x = get_or c.args.list.now c.loop-i.i (coded 0 0) in
     let here = drop_more c.args.list.now c.loop-i.i (coded 0 0) c.loop-i-test.true in
     let step =
-        subst (λ (l : List Coded). c.pack_code-ahead.new.sink ++ spelled zeros c.pack_code-ahead.result l ≡ c.loop-i.sink ++ spelled zeros c.loop-i.ahead (x ∷ l)) c.behind.ensures
-        c.pack_code-ahead.ensures.bits in
+    subst (λ (l : List Coded). c.pack_code-ahead.new.sink ++ spelled zeros c.pack_code-ahead.result l ≡ c.loop-i.sink ++ spelled zeros c.loop-i.ahead (x ∷ l)) c.behind.ensures
+    c.pack_code-ahead.ensures.bits in
     let back = ap (λ l. c.loop-i.sink ++ spelled zeros c.loop-i.ahead l) (sym here) in
     (rw c.pack_code-ahead.ensures.ahead (after_ahead c.loop-i.ahead x.bap c.loop-i.invariant.0), step ∙ back ∙ c.loop-i.invariant.1)
 
 pub returns-clause-len : goal.returns-clause-len
 returns-clause-len c =
     let whole =
-        lengths_meet c.loop-i.sink (spelled zeros c.loop-i.ahead (drop c.loop-i.i c.args.list.now)) c.args.sink.now (spelled zeros closed c.args.list.now) (length c.args.sink.now) _
-        c.loop-i.invariant.1 refl (whole_cost zeros c.args.list.now) in
+    lengths_meet c.loop-i.sink (spelled zeros c.loop-i.ahead (drop c.loop-i.i c.args.list.now)) c.args.sink.now (spelled zeros closed c.args.list.now) (length c.args.sink.now) _
+    c.loop-i.invariant.1 refl (whole_cost zeros c.args.list.now) in
     let ended = drop_of_length-le c.args.list.now c.loop-i-test.false in
     let none : length (spelled zeros c.loop-i.ahead (drop c.loop-i.i c.args.list.now)) ≡ 0 = ap (λ (l : List Coded). length (spelled zeros c.loop-i.ahead l)) ended in
     omega (arith, whole, none)

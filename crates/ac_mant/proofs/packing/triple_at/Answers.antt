@@ -1,5 +1,4 @@
-use Rattle.std.proofs.Common.{◌≡◌, ◌<◌, ◌++◌, ℕ, [], ◌∷◌, slice_index, subst, sym, arith}
-use Rattle.ac_mant.specs.Groups.{coming}
+use Rattle.std.proofs.Common.{◌<◌, ℕ, [], ◌∷◌, subst, sym, arith}
 use Rattle.ac_mant.proofs.Coming.{coming_below}
 use Rattle.ac_mant.proofs.packing.triple_at.Goals as goal
 

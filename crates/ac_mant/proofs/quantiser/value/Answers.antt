@@ -1,4 +1,4 @@
-use Rattle.std.proofs.Common.{◌≡◌, ◌^◌, ◌≤◌, ℤ, unsigned_abs, SFits, FitsSigned, w32, w64, rules, arith, subst, sym}
+use Rattle.std.proofs.Common.{◌≡◌, ◌^◌, ◌≤◌, ℤ, unsigned_abs, SFits, w32, w64, rules, subst, sym}
 use Rattle.std.proofs.lemmas.Int.{to_z-of_z, ints}
 use Rattle.ac_mant.specs.Quantiser.{value_of}
 use Rattle.ac_mant.proofs.Values.{value_within}

@@ -1,8 +1,8 @@
-use Rattle.std.proofs.Common.{◌≡◌, ◌+◌, ℕ, List, [], ◌∷◌, ◌++◌, take, drop, length, get_or, slice_set, Ok, Err, refl, arith, rules, subst, sym, ap, ◌∙◌}
+use Rattle.std.proofs.Common.{◌≡◌, ◌+◌, take, drop, get_or, Ok, Err, arith, rules, sym, ap, ◌∙◌}
 use Rattle.std.proofs.lemmas.List.{drop_more, take_more_set, take_all, length-set}
 use Rattle.std.proofs.Math.ListN.{drop_of_length-le}
 use Rattle.ac_mant.specs.Groups.{number_width, number_limit}
-use Rattle.ac_mant.specs.Unpacking.{nothing, ahead_in, opened, read_number, read_from, with_front}
+use Rattle.ac_mant.specs.Unpacking.{ahead_in, opened, read_number, read_from, with_front}
 use Rattle.ac_mant.proofs.Reading.{one_read, none_read, end_read}
 use Rattle.ac_mant.proofs.unpacking.read_codes.Goals as goal
 
@@ -17,12 +17,13 @@ loop-i-preserved c =
     let step = one_read front h c.loop-i.i bap c.in-Ok.number (drop (c.loop-i.i + 1) c.args.baps.now) c.loop-i.source c.number_at.new.source one in
     let before = ap (λ l. with_front front (read_from h c.loop-i.i l c.loop-i.source)) here in
     let put = take_more_set c.loop-i.out c.loop-i.i code (omega (arith, c.loop-i.invariant.0, c.loop-i-test.true)) in
-    rw c.opened-code.ensures
-    (length-set c.loop-i.out c.loop-i.i code ∙ c.loop-i.invariant.0,
-    ap (λ l. with_front l (read_from (opened h bap c.in-Ok.number).1 (c.loop-i.i + 1) (drop (c.loop-i.i + 1) c.args.baps.now) c.number_at.new.source)) put
-    ∙ sym step
-    ∙ sym before
-    ∙ c.loop-i.invariant.1)
+    rw c.opened-code.ensures (
+      length-set c.loop-i.out c.loop-i.i code ∙ c.loop-i.invariant.0,
+      ap (λ l. with_front l (read_from (opened h bap c.in-Ok.number).1 (c.loop-i.i + 1) (drop (c.loop-i.i + 1) c.args.baps.now) c.number_at.new.source)) put
+          ∙ sym step
+          ∙ sym before
+          ∙ c.loop-i.invariant.1,
+    )
 
 pub returns-in-Err : goal.returns-in-Err
 returns-in-Err c =

@@ -1,4 +1,4 @@
-use Rattle.std.proofs.Common.{◌≡◌, ◌<◌, ◌++◌, ◌^◌, Result, Ok, Err, List, Bool, rules, sym, subst}
+use Rattle.std.proofs.Common.{◌≡◌, ◌<◌, ◌++◌, ◌^◌, Ok, Err, List, Bool, rules, sym, subst}
 use Rattle.ac_bits.specs.Bits.{bits}
 use Rattle.ac_mant.specs.declared.coded.MantFault.TheVariants.{BadGroup}
 use Rattle.ac_mant.specs.Unpacking.{read_number}
