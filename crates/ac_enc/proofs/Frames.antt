@@ -14,7 +14,9 @@ use Rattle.ac_base.specs.Spans.{groups_of}
 use Rattle.ac_expo.specs.Spelling.{Spelling}
 use Rattle.ac_expo.proofs.Agreeing.{RawsAgree, same_exps, same_spelling}
 use Rattle.ac_expo.proofs.Spellings.{groups_long}
-use Rattle.ac_frame.specs.Plain.{d45_groups, end_bin, AreBytes, IsSized, IsPlain}
+use Rattle.ac_base.specs.Shape.{free_span}
+use Rattle.ac_frame.specs.Plain.{AreBytes, IsSized, IsPlain}
+use Rattle.ac_frame.proofs.Widths.{few_groups}
 use Rattle.ac_frame.proofs.Frames.{Made}
 use Rattle.ac_frame.proofs.Unique.{frame_size, first_part, both_parts, one_frame}
 use Rattle.ac_enc.specs.Frame.{bandwidth, mono_span, size_code, AreRaw, IsSpelled, IsFrame}
@@ -56,7 +58,7 @@ one_spelling rate x s t p q =
     let same = same_exps 3 span p.raw q.raw 0 6 p.exps q.exps (is_span rate) (is_kind rate) (raws_agree rate x p.raw q.raw p.is_raw q.is_raw) p.is_exps q.is_exps in
     p.is_spelled ∙ (same_spelling 3 span p.exps q.exps (is_span rate) same ∙ sym q.is_spelled)
 
-spelled_long : (rate : ℕ) (x : ℕ → ℤ) (s : Spelling) → IsSpelled rate x s → length s.groups ≡ d45_groups (end_bin (bandwidth rate))
+spelled_long : (rate : ℕ) (x : ℕ → ℤ) (s : Spelling) → IsSpelled rate x s → length s.groups ≡ groups_of 3 (free_span (bandwidth rate))
 spelled_long rate x s p =
     ap (λ (t : Spelling). length t.groups) p.is_spelled
     ∙ (groups_long 3 (mono_span rate) p.exps (groups_of 3 (mono_span rate)) ∙ groups_are rate)
@@ -67,7 +69,7 @@ sized : (rate fscod i : ℕ) (x : ℕ → ℤ) (frame : List ℕ) → IsRate rat
 sized rate fscod i x frame is p =
     let fit = words_fit rate fscod i is in
     let long = spelled_long rate x p.spelled p.is_spelled in
-    record { least = fit.0; most = fit.1; few = omega (arith, long) }
+    record { least = fit.0; most = fit.1; few = omega (arith, long, few_groups (bandwidth rate) (omega arith)) }
 
 abbrev made : ℕ → ℕ → ℕ → ℕ → Spelling → Made
 made rate fscod i code s =

@@ -11,7 +11,8 @@ use Rattle.ac_bits.proofs.Laws.{length-bits, bits_of-append}
 use Rattle.ac_crc.specs.Remainder.{IsRemainder}
 use Rattle.ac_frame.specs.declared.rows.Row.{Row}
 use Rattle.ac_frame.specs.Rows.{row, spell, widths, group_rows}
-use Rattle.ac_frame.specs.Padding.{front_room, skip, skip_bits, skipped, to_skip, aux_bits}
+use Rattle.ac_base.specs.Sizes.{front_room}
+use Rattle.ac_frame.specs.Padding.{skip, skip_bits, skipped, to_skip, aux_bits}
 use Rattle.ac_frame.specs.Plain.{head_rows, strategy_rows, allocation_rows, reuse_rows, skip_rows, first_block_rows, later_block_rows, later_rows, tail_rows, total_bits, body_rows, plain_rows, front_part, all_part, IsSized, IsPlain}
 use Rattle.ac_frame.proofs.Spelling.{spell-append, widths-append, widths-groups, length-spell, one_spelled}
 use Rattle.ac_frame.proofs.Skips.{skipped_is, room_left}

@@ -3,7 +3,8 @@ use Rattle.std.proofs.Common.{◌≢◌, inl, inr, ◌≡◌, ℕ, zero, suc, �
 use Rattle.std.proofs.lemmas.Bool.{cases_lt}
 use Rattle.ac_bits.specs.Bits.{bits, Appends}
 use Rattle.ac_frame.specs.Rows.{row, spell}
-use Rattle.ac_frame.specs.Padding.{skip, skipl_of, skip_bits, skipped, to_skip, front_room}
+use Rattle.ac_base.specs.Sizes.{front_room}
+use Rattle.ac_frame.specs.Padding.{skip, skipl_of, skip_bits, skipped, to_skip}
 use Rattle.ac_frame.specs.Plain.{skip_rows, tail_rows, total_bits}
 use Rattle.ac_frame.proofs.Spelling.{one_row, row-then}
 use Rattle.std.specs.Prelude.{Some, None}

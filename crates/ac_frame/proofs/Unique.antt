@@ -5,7 +5,7 @@ use Rattle.ac_bits.proofs.Laws.{length-bits, length-bits_of, bits_same}
 use Rattle.ac_crc.specs.Remainder.{IsRemainder}
 use Rattle.ac_crc.proofs.Remainders.{trails, one_trailing, one_leading, last_bit_turned}
 use Rattle.ac_frame.specs.Rows.{spell}
-use Rattle.ac_frame.specs.Padding.{front_room}
+use Rattle.ac_base.specs.Sizes.{front_room}
 use Rattle.ac_frame.specs.Plain.{plain_rows, front_part, all_part, AreBytes, IsPlain}
 use Rattle.ac_frame.proofs.Frames.{Made, Sized, body, before, body_split, bits_of-take, bits_of-drop, front_is, all_of, all_rows, length-body}
 

@@ -1,15 +1,12 @@
 -- Where the bits go that the fields of a frame leave over, over plain numbers. Skip fields are those of A/52 5.4.3.58 to
 -- 5.4.3.60, aux bits those of 5.4.4.1, the first CRC part that of 7.10.1; the rule that shares the bits out is this project's own.
 use Rattle.std.specs.Prelude.{ℕ, zero, suc, ◌+◌, ◌-◌, ◌*◌, ◌/◌, min, Option, Some, None}
-
--- the bits of the first CRC part: the first 5/8 of the frame's words (A/52 7.10.1)
-abbrev pub front_room : ℕ → ℕ
-front_room words = 16 * (words / 2 + words / 8)
+use Rattle.ac_base.specs.Sizes.{end_room, tail_bits}
 
 -- what aux bits may take of the rest of the frame: not the mantissas of block 5, and not the
 -- 18 bits of auxdatae, crcrsv and crc2 (A/52 5.4.4.3, 5.4.5)
 abbrev pub aux_room : ℕ → ℕ → ℕ
-aux_room words last = 16 * words - front_room words - last - 18
+aux_room words last = end_room words - last - tail_bits
 
 -- what is left of a frame whose fields, without skip fields and aux bits, have so many bits
 abbrev pub left_over : ℕ → ℕ → ℕ

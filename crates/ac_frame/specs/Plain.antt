@@ -5,7 +5,9 @@ use Rattle.ac_bits.specs.Bits.{bits_of}
 use Rattle.ac_crc.specs.Remainder.{IsRemainder}
 use Rattle.ac_frame.specs.declared.rows.Row.{Row}
 use Rattle.ac_frame.specs.Rows.{row, spell, group_rows}
-use Rattle.ac_frame.specs.Padding.{front_room, skip, to_skip, aux_bits}
+use Rattle.ac_base.specs.Sizes.{front_room, tail_bits}
+use Rattle.ac_base.specs.Profile.{sent_sdcycod, sent_fdcycod, sent_sgaincod, sent_dbpbcod, sent_floorcod, sent_fgaincod}
+use Rattle.ac_frame.specs.Padding.{skip, to_skip, aux_bits}
 
 -- syncinfo and bsi behind crc1 (A/52 5.3.1 and 5.4.1, 5.3.2 and 5.4.2)
 unfoldable pub head_rows : ℕ → ℕ → List Row
@@ -45,15 +47,15 @@ unfoldable pub allocation_rows : List Row
 allocation_rows =
     row 0 2  -- gainrng
     ∷ row 1 1  -- baie
-    ∷ row 2 2  -- sdcycod
-    ∷ row 1 2  -- fdcycod
-    ∷ row 1 2  -- sgaincod
-    ∷ row 3 2  -- dbpbcod
-    ∷ row 7 3  -- floorcod
+    ∷ row sent_sdcycod 2  -- sdcycod
+    ∷ row sent_fdcycod 2  -- fdcycod
+    ∷ row sent_sgaincod 2  -- sgaincod
+    ∷ row sent_dbpbcod 2  -- dbpbcod
+    ∷ row sent_floorcod 3  -- floorcod
     ∷ row 1 1  -- snroffste
     ∷ row 0 6  -- csnroffst
     ∷ row 0 4  -- fsnroffst
-    ∷ row 4 3  -- fgaincod
+    ∷ row sent_fgaincod 3  -- fgaincod
     ∷ row 0 1  -- deltbaie
     ∷ row 0 1  -- skiple
     ∷ []
@@ -101,18 +103,10 @@ tail_rows aux crcrsv =
     ∷ row crcrsv 1  -- crcrsv
     ∷ []
 
--- the end of the bins of a channel of its own bandwidth (A/52 7.1.3: endmant)
-abbrev pub end_bin : ℕ → ℕ
-end_bin bw = 37 + 3 * (bw + 12)
-
--- the groups of D45 exponents up to an end bin (A/52 7.1.3: nchgrps)
-abbrev pub d45_groups : ℕ → ℕ
-d45_groups end = (end + 8) / 12
-
 -- the bits of all fields without padding: head, block 0, its exponents with chbwcod and
 -- gainrng, five later blocks, and auxdatae, crcrsv and crc2 (the widths of A/52 5.3)
 abbrev pub total_bits : ℕ → ℕ
-total_bits groups = 65 + 35 + (12 + 7 * groups) + 5 * 10 + 18
+total_bits groups = 65 + 35 + (12 + 7 * groups) + 5 * 10 + tail_bits
 
 -- all rows between crc1 and crc2 (A/52 5.3)
 unfoldable pub body_rows : ℕ → ℕ → ℕ → ℕ → ℕ → List ℕ → ℕ → List Row

@@ -1,7 +1,8 @@
 ghost use Rattle.std.specs.Prelude.{◌↔◌, ◌<◌, Option, Some, None, ◌≡◌, ◌≢◌, ℕ, ◌+◌, ◌*◌, ◌/◌, ◌≤◌, List, length, take, drop};
 ghost use Rattle.ac_bits.specs.Bits.{bits_of};
 ghost use Rattle.ac_crc.specs.Remainder.{IsRemainder};
-ghost use Rattle.ac_frame.specs.Padding.{aux_bits, aux_room, front_room, left_over, skip, skip_bits, skipl_of, skipped, to_skip};
+ghost use Rattle.ac_base.specs.Sizes.{front_room};
+ghost use Rattle.ac_frame.specs.Padding.{aux_bits, aux_room, left_over, skip, skip_bits, skipl_of, skipped, to_skip};
 ghost use Rattle.ac_frame.specs.Plain.{total_bits, AreBytes, IsSized, IsPlain};
 
 /// What is true of every plain frame: its size, the remainders of both CRC parts (A/52 7.10.1),

@@ -1,5 +1,5 @@
 ghost use Rattle.std.specs.Prelude.{◌≡◌, ◌+◌, ◌*◌, ◌^◌, ◌<◌, ◌≤◌, List, ◌++◌, length, slice_index, EachIndex};
-ghost use Rattle.ac_bits.specs.Bits.{bits, Appends};
+ghost use Rattle.ac_bits.specs.Bits.{bits, Appends, frame_bits};
 ghost use Rattle.ac_frame.specs.Rows.{Fit, spell, widths, group_rows};
 
 use ac_bits::BitSink;
@@ -23,7 +23,7 @@ pub fn field(value: u16, width: u8) -> Row
 /// Appends rows in order.
 pub fn put_rows(sink: &mut BitSink, rows: &[Row])
     requires fit { Fit rows.now }
-    requires room { length sink.old + widths rows.now ≤ 30720 }
+    requires room { length sink.old + widths rows.now ≤ frame_bits }
     ensures bits { Appends sink.old sink.new (spell rows.now) }
     ensures len { length sink.new ≡ length sink.old + widths rows.now }
 {
@@ -35,7 +35,7 @@ pub fn put_rows(sink: &mut BitSink, rows: &[Row])
 /// Appends the groups of an exponent list, 7 bits each (A/52 5.4.3.27).
 pub fn put_groups(sink: &mut BitSink, groups: &[u8])
     requires below { EachIndex groups.now (λ k. slice_index groups.now k < 128) }
-    requires room { length sink.old + 7 * length groups.now ≤ 30720 }
+    requires room { length sink.old + 7 * length groups.now ≤ frame_bits }
     ensures bits { Appends sink.old sink.new (spell (group_rows groups.now)) }
     ensures len { length sink.new ≡ length sink.old + 7 * length groups.now }
 {
@@ -46,7 +46,7 @@ pub fn put_groups(sink: &mut BitSink, groups: &[u8])
 
 /// Appends `count` zeros.
 pub fn put_zeros(sink: &mut BitSink, count: u32)
-    requires room { length sink.old + count ≤ 30720 }
+    requires room { length sink.old + count ≤ frame_bits }
     ensures bits { Appends sink.old sink.new (bits 0 count) }
     ensures len { length sink.new ≡ length sink.old + count }
 {

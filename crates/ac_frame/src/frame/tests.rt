@@ -23,7 +23,7 @@ fn silence_base_frame(rt: HostRuntime) {
         bw: 60,
     };
     assert!(rt; SILENCE.iter().all(|g| *g < 128));
-    let mut out = [0xff; 3840];
+    let mut out = [0xff; FRAME_BYTES];
     assert_eq!(rt; plain(&size, 15, &SILENCE, &mut out), 768);
     assert!(rt; out.starts_with(&SILENCE_FRONT));
     assert!(rt; out[40..768].iter().all(|b| *b == 0));
@@ -49,7 +49,7 @@ fn smallest_frame(rt: HostRuntime) {
         bw: 0,
     };
     assert!(rt; SMALLEST_GROUPS.iter().all(|g| *g < 128));
-    let mut out = [0xff; 3840];
+    let mut out = [0xff; FRAME_BYTES];
     assert_eq!(rt; plain(&size, 3, &SMALLEST_GROUPS, &mut out), 128);
     assert!(rt; out.starts_with(&SMALLEST_FRONT));
     assert!(rt; out[27..128].iter().all(|b| *b == 0));
@@ -103,7 +103,7 @@ fn largest_frame(rt: HostRuntime) {
     };
     let groups = [1; 8];
     assert!(rt; groups.iter().all(|g| *g < 128));
-    let mut out = [0xff; 3840];
+    let mut out = [0xff; FRAME_BYTES];
     assert_eq!(rt; plain(&size, 9, &groups, &mut out), 3840);
     for (place, byte) in LARGEST {
         assert!(rt; place < 3840);

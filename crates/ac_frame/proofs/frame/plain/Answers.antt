@@ -1,17 +1,19 @@
-use Rattle.std.proofs.Common.{◌≡◌, ◌+◌, ◌-◌, ◌*◌, ◌/◌, ◌≤◌, ◌++◌, take, length, List, Bool, ℕ, ap, ◌∙◌, subst, arith, inl, inr, refl}
+use Rattle.std.proofs.Common.{◌≡◌, ◌+◌, ◌-◌, ◌*◌, ◌/◌, ◌≤◌, ◌++◌, take, length, List, Bool, ℕ, ap, ◌∙◌, subst, arith, inl, inr, refl, rules}
 use Rattle.ac_bits.specs.Bits.{bits, bits_of}
 use Rattle.ac_crc.specs.Remainder.{IsRemainder}
 use Rattle.ac_frame.specs.Rows.{spell}
-use Rattle.ac_frame.specs.Padding.{front_room}
+use Rattle.ac_base.specs.Sizes.{front_room}
 use Rattle.ac_frame.proofs.Frames.{Made, Sized, body, front_bits, is_plain, assembled, closed}
+use Rattle.ac_frame.proofs.Widths.{few_groups}
 use Rattle.ac_frame.proofs.frame.plain.Goals as goal
 
 pub returns-then-assemble-ne-SYNC_WORD-clause-frame : goal.returns-then-assemble-ne-SYNC_WORD-clause-frame
 returns-then-assemble-ne-SYNC_WORD-clause-frame c =
     let s = c.args.size.now in
     let a : Made = record { fscod = s.fscod; frmsizecod = s.frmsizecod; words = s.words; bw = s.bw; first = c.args.first; groups = c.args.groups.now } in
-    let sized : Sized a = record { least = omega arith; most = omega arith; few = omega arith } in
-    let k = 2 * (s.words / 2 + s.words / 8) - 4 in
+    let sized : Sized a = record { least = omega arith; most = omega arith; few = omega (arith, few_groups s.bw (omega arith)) } in
+    let front_is : c.from.result ≡ s.words / 2 + s.words / 8 = search rules in
+    let k = 2 * c.from.result - 4 in
     let n = c.put_body-count.result in
     let buf = c.put_body-count.new.out in
     let crc1 = c.leading_word-crc1.result in
@@ -30,8 +32,9 @@ pub returns-clause-frame : goal.returns-clause-frame
 returns-clause-frame c =
     let s = c.args.size.now in
     let a : Made = record { fscod = s.fscod; frmsizecod = s.frmsizecod; words = s.words; bw = s.bw; first = c.args.first; groups = c.args.groups.now } in
-    let sized : Sized a = record { least = omega arith; most = omega arith; few = omega arith } in
-    let k = 2 * (s.words / 2 + s.words / 8) - 4 in
+    let sized : Sized a = record { least = omega arith; most = omega arith; few = omega (arith, few_groups s.bw (omega arith)) } in
+    let front_is : c.from.result ≡ s.words / 2 + s.words / 8 = search rules in
+    let k = 2 * c.from.result - 4 in
     let n = c.put_body-count.result in
     let buf = c.put_body-count.new.out in
     let next = c.put_body.new.out in
