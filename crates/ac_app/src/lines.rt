@@ -13,7 +13,7 @@ pub type Line = ArrayString<96>;
 
 fn push_number(line: &mut Line, number: u64)
     requires { array_string_len line.old + 20 ≤ 96 }
-    ensures bytes { line.new.bytes ≡ line.old.bytes ++ decimal number }
+    ensures adds { line.new.bytes ≡ line.old.bytes ++ decimal number }
     ensures len { array_string_len line.new ≤ array_string_len line.old + 20 }
 {
     let mut buffer = Buffer::new();
@@ -34,7 +34,7 @@ pub fn frame(i: u32, size: usize) -> Line
 }
 
 fn word_of(kind: WavKind) -> &'static str
-    ensures bytes { result.now ≡ kind_word kind }
+    ensures value { result.now ≡ kind_word kind }
 {
     match kind {
         WavKind::Short => "short ",
