@@ -28,7 +28,9 @@ fields_of v = record { first = v.first; cells = v.groups ++ replicate (84 - leng
 pub fields_back : (a : Inside) → IsKept a → fields_of (spelling_of a) ≡ a
 fields_back a h =
     let count : length (take a.count a.cells) ≡ a.count = length-take-le a.count a.cells (omega arith) in
-    let zeros : replicate (84 - length (take a.count a.cells)) 0 ≡ drop a.count a.cells = ap (λ n. replicate (84 - n) 0) count ∙ sym h.zeros in
-    let cells : take a.count a.cells ++ replicate (84 - length (take a.count a.cells)) 0 ≡ a.cells = ap (λ r. take a.count a.cells ++ r) zeros ∙ take-append-drop a.count a.cells in
+    let zeros : replicate (84 - length (take a.count a.cells)) 0 ≡ drop a.count a.cells =
+    ap (λ n. replicate (84 - n) 0) count ∙ sym h.zeros in
+    let cells : take a.count a.cells ++ replicate (84 - length (take a.count a.cells)) 0 ≡ a.cells =
+    ap (λ r. take a.count a.cells ++ r) zeros ∙ take-append-drop a.count a.cells in
     let P : List ℕ → ℕ → Inside = λ cs n. record { first = a.first; cells = cs; count = n } in
     ap₂ P cells count

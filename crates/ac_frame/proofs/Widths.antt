@@ -1,6 +1,5 @@
 -- The widest channel has 21 groups.
-use Rattle.std.proofs.Common.{◌≡◌, ℕ, ◌≤◌, arith}
-use Rattle.std.specs.Prelude.{if◌then◌else◌, nat_eq}
+use Rattle.std.proofs.Common.{ℕ, ◌≤◌, arith}
 use Rattle.ac_base.specs.Shape.{free_span}
 use Rattle.ac_base.specs.Spans.{groups_of}
 

@@ -1,6 +1,6 @@
 -- The plain frame (A/52 5.3): mono, SNR offset 0, exponents D45 in block 0 and reuse after it, no mantissas. The values that
 -- stand in its rows are this project's choice.
-use Rattle.std.specs.Prelude.{◌≡◌, ◌≢◌, ◌⊎◌, ℕ, ◌+◌, ◌*◌, ◌/◌, ◌^◌, ◌<◌, ◌≤◌, slice_index, Bool, List, [], ◌∷◌, ◌++◌, length, take, drop, Option, Some, None}
+use Rattle.std.specs.Prelude.{◌≡◌, ◌≢◌, ◌⊎◌, ℕ, ◌+◌, ◌*◌, ◌^◌, ◌<◌, ◌≤◌, slice_index, Bool, List, [], ◌∷◌, ◌++◌, length, take, drop, Option, Some, None}
 use Rattle.ac_bits.specs.Bits.{bits_of}
 use Rattle.ac_crc.specs.Remainder.{IsRemainder}
 use Rattle.ac_frame.specs.declared.rows.Row.{Row}
@@ -152,4 +152,5 @@ pub record IsPlain (fscod frmsizecod words bw first : ℕ) (groups frame : List 
   pub whole : bits_of frame ≡ spell (plain_rows fscod frmsizecod words bw first groups crc1 crcrsv crc2)
   pub front : IsRemainder (front_part words (bits_of frame)) 0
   pub all : IsRemainder (all_part (bits_of frame)) 0
-  pub reserved : ((crcrsv ≡ 0) × (crc2 ≢ 0x0B77)) ⊎ ((crcrsv ≡ 1) × IsRemainder (all_part (spell (plain_rows fscod frmsizecod words bw first groups crc1 0 0x0B77))) 0)
+  pub reserved : ((crcrsv ≡ 0) × (crc2 ≢ 0x0B77))
+      ⊎ ((crcrsv ≡ 1) × IsRemainder (all_part (spell (plain_rows fscod frmsizecod words bw first groups crc1 0 0x0B77))) 0)

@@ -29,7 +29,8 @@ fn put_body(size: &Size, first: u8, groups: &[u8], crcrsv: u8, out: &mut [u8; FR
     requires below { EachIndex groups.now (λ k. slice_index groups.now k < 128) }
     requires bit { crcrsv < 2 }
     ensures count { result + 6 ≡ 2 * size.now.words }
-    ensures bytes { bits_of (take result out.new) ≡ spell (body_rows size.now.fscod size.now.frmsizecod size.now.words size.now.bw first groups.now crcrsv) }
+    ensures bytes { bits_of (take result out.new)
+        ≡ spell (body_rows size.now.fscod size.now.frmsizecod size.now.words size.now.bw first groups.now crcrsv) }
 {
     let mut sink = BitSink::new();
     put_rows(&mut sink, &head(size));
@@ -60,7 +61,8 @@ fn word_bytes(word: u16) -> [u8; 2]
 /// Writes the whole frame that has these bytes between crc1 and crc2, and answers crc2.
 fn assemble(crc1: u16, body: &[u8], out: &mut [u8; FRAME_BYTES]) -> u16
     requires { length body.now + 6 ≤ frame_bytes }
-    ensures frame { bits_of (take (length body.now + 6) out.new) ≡ bits 0x0B77 16 ++ (bits crc1 16 ++ (bits_of body.now ++ bits result 16)) }
+    ensures frame { bits_of (take (length body.now + 6) out.new)
+        ≡ bits 0x0B77 16 ++ (bits crc1 16 ++ (bits_of body.now ++ bits result 16)) }
     ensures whole { IsRemainder (bits crc1 16 ++ (bits_of body.now ++ bits result 16)) 0 }
     ensures rest { drop (length body.now + 6) out.new ≡ drop (length body.now + 6) out.old }
 {

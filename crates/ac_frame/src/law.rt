@@ -8,11 +8,18 @@ ghost use Rattle.ac_frame.specs.Plain.{total_bits, AreBytes, IsSized, IsPlain};
 /// What is true of every plain frame: its size, the remainders of both CRC parts (A/52 7.10.1),
 /// that crc2 is never the syncword, and that there is one plain frame of given exponents.
 pub fn plain_law()
-    ensures size { (fscod frmsizecod words bw first : ℕ) (groups frame : List ℕ) → IsSized words groups → IsPlain fscod frmsizecod words bw first groups frame → length frame ≡ 2 * words }
-    ensures first_part { (fscod frmsizecod words bw first : ℕ) (groups frame : List ℕ) → IsPlain fscod frmsizecod words bw first groups frame → IsRemainder (bits_of (drop 2 (take (2 * (words / 2 + words / 8)) frame))) 0 }
-    ensures both_parts { (fscod frmsizecod words bw first : ℕ) (groups frame : List ℕ) → IsPlain fscod frmsizecod words bw first groups frame → IsRemainder (bits_of (drop 2 frame)) 0 }
-    ensures no_sync { (fscod frmsizecod words bw first : ℕ) (groups frame : List ℕ) (p : IsPlain fscod frmsizecod words bw first groups frame) → p.crc2 ≢ 0x0B77 }
-    ensures one { (fscod frmsizecod words bw first : ℕ) (groups f g : List ℕ) → IsSized words groups → AreBytes f → AreBytes g → IsPlain fscod frmsizecod words bw first groups f → IsPlain fscod frmsizecod words bw first groups g → f ≡ g }
+    ensures size { (fscod frmsizecod words bw first : ℕ) (groups frame : List ℕ) → IsSized words groups
+        → IsPlain fscod frmsizecod words bw first groups frame → length frame ≡ 2 * words }
+    ensures first_part { (fscod frmsizecod words bw first : ℕ) (groups frame : List ℕ)
+        → IsPlain fscod frmsizecod words bw first groups frame
+        → IsRemainder (bits_of (drop 2 (take (2 * (words / 2 + words / 8)) frame))) 0 }
+    ensures both_parts { (fscod frmsizecod words bw first : ℕ) (groups frame : List ℕ)
+        → IsPlain fscod frmsizecod words bw first groups frame → IsRemainder (bits_of (drop 2 frame)) 0 }
+    ensures no_sync { (fscod frmsizecod words bw first : ℕ) (groups frame : List ℕ)
+        (p : IsPlain fscod frmsizecod words bw first groups frame) → p.crc2 ≢ 0x0B77 }
+    ensures one { (fscod frmsizecod words bw first : ℕ) (groups f g : List ℕ) → IsSized words groups → AreBytes f
+        → AreBytes g → IsPlain fscod frmsizecod words bw first groups f
+        → IsPlain fscod frmsizecod words bw first groups g → f ≡ g }
 {}
 
 /// What the padding of a plain frame keeps: skipl is the least that does, a block is filled only
@@ -23,7 +30,10 @@ pub fn padding_law()
     ensures least { (n k : ℕ) → n ≤ 4097 → skipl_of n ≡ Some k → (n ≤ 9 + 8 * k) × ((j : ℕ) → n ≤ 9 + 8 * j → k ≤ j) }
     ensures full { (n : ℕ) → 4097 ≤ n → skipl_of n ≡ Some 511 }
     ensures order { (x block : ℕ) → block < 5 → skip x block ≢ None → skip x (block + 1) ≡ Some 511 }
-    ensures sum { (words : ℕ) (groups : List ℕ) → IsSized words groups → let total = total_bits (length groups) in skipped (to_skip words total 0) + aux_bits words total 0 ≡ left_over words total }
+    ensures sum { (words : ℕ) (groups : List ℕ) → IsSized words groups
+        → let total = total_bits (length groups) in skipped (to_skip words total 0) + aux_bits words total 0
+        ≡ left_over words total }
     ensures aux { (words : ℕ) (groups : List ℕ) → IsSized words groups → aux_bits words (total_bits (length groups)) 0 ≤ aux_room words 0 }
-    ensures front { (words : ℕ) (groups : List ℕ) → IsSized words groups → 65 + 35 + (12 + 7 * length groups) + 10 + skip_bits (skip (to_skip words (total_bits (length groups)) 0) 1) ≤ front_room words }
+    ensures front { (words : ℕ) (groups : List ℕ) → IsSized words groups
+        → 65 + 35 + (12 + 7 * length groups) + 10 + skip_bits (skip (to_skip words (total_bits (length groups)) 0) 1) ≤ front_room words }
 {}

@@ -51,7 +51,8 @@ opened h bap v =
 
 -- ---- all
 
-abbrev pub with_number : Result (ℕ × List Bool) MantFault → (ℕ → List Bool → Result (List ℕ × List Bool) MantFault) → Result (List ℕ × List Bool) MantFault
+abbrev pub with_number : Result (ℕ × List Bool) MantFault → (ℕ → List Bool → Result (List ℕ × List Bool) MantFault)
+    → Result (List ℕ × List Bool) MantFault
 with_number (Ok n) f = f n.0 n.1
 with_number (Err fault) f = Err fault
 

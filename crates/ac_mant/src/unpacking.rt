@@ -29,7 +29,8 @@ fn read_number(source: &mut BitSource, width: u8, limit: u32, place: u16) -> Res
 #[inline]
 fn number_at(source: &mut BitSource, held: Held, bap: u8, place: u16) -> Result<u16, MantFault>
     requires { bap ≤ 15 }
-    ensures { NumberGives result source.new (read_number place (number_width (ahead_in held) bap) (number_limit (ahead_in held) bap) source.old) }
+    ensures { NumberGives result source.new
+        (read_number place (number_width (ahead_in held) bap) (number_limit (ahead_in held) bap) source.old) }
 {
     let ahead = ahead(held);
     read_number(source, width_at(ahead, bap), limit_at(ahead, bap), place)
