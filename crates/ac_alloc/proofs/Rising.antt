@@ -9,10 +9,10 @@ use Rattle.ac_alloc.specs.declared.params.Params.{Params}
 use Rattle.ac_base.specs.declared.spans.Lead.{Lead}
 use Rattle.ac_base.specs.declared.spans.Lead.TheVariants as lead
 use Rattle.ac_base.specs.Allocation.{bndtab_list, masktab_list, hth_list}
-use Rattle.ac_alloc.specs.Codes.{IsParams, slow_gains, knees, floors, fast_gain, slow_gain, fast_decay, slow_decay, fast_start, slow_start, knee, floor_of}
+use Rattle.ac_alloc.specs.Codes.{IsParams, encoder_params, slow_gains, knees, floors, fast_gain, slow_gain, fast_decay, slow_decay, fast_start, slow_start, knee, floor_of}
 use Rattle.ac_alloc.specs.Integration.{folded, psd, bndpsd, first_bin, last_bin}
 use Rattle.ac_alloc.specs.Excitation.{greatest, leak, leak_from, joined, low, begin, excite, excite_coupling, excite_by}
-use Rattle.ac_alloc.specs.Masking.{masked, IsLevel, IsFloor, mask, first_band}
+use Rattle.ac_alloc.specs.Masking.{masked, IsLevel, IsFloor, MasksAreLevels, FloorsAreFloors, mask, first_band}
 use Rattle.ac_alloc.specs.Pointers.{natural, snr_offset, level, BapsRise, BapRisesWithOffset}
 use Rattle.ac_base.proofs.Tests.{all_below-at}
 use Rattle.ac_base.proofs.AllocationTables.{baps_rise, starts_near, hearing_small, bands_small}
@@ -148,12 +148,20 @@ floor_in (suc (suc (suc (suc (suc (suc zero)))))) h = search rules
 floor_in (suc (suc (suc (suc (suc (suc (suc zero))))))) h = search rules
 floor_in (suc (suc (suc (suc (suc (suc (suc (suc k)))))))) h = absurd (omega arith)
 
+pub masks_are_levels : MasksAreLevels
+masks_are_levels p s exps b is span below =
+    let P = bndpsd s.start s.end exps in
+    let e = by_bound s.lead p is (first_band s) P b (λ j. bndpsd_bound s.start s.end exps j (span_end s span)) in
+    masked_level (excite_by s.lead p (first_band s) P b) (knee p) (P b) (slice_index (hth_list p.fscod) b) e (knee_most p is) (hearing_small p.fscod b below)
+
+pub floors_are_floors : FloorsAreFloors
+floors_are_floors p is = floor_in p.floorcod (omega (arith, is))
+
+pub encoder_within : (fscod : ℕ) → fscod ≤ 2 → IsParams (encoder_params fscod)
+encoder_within fscod rate = (rate, omega arith, omega arith, omega arith, omega arith, omega arith, omega arith, omega arith, omega arith)
+
 pub bap_rises : BapRisesWithOffset
 bap_rises p s exps k t u is span l m h =
-    let end = span_end s span in
     let b = slice_index masktab_list k in
-    let P = bndpsd s.start s.end exps in
-    let small = bands_small k (omega (arith, end)) in
-    let e = by_bound s.lead p is (first_band s) P b (λ j. bndpsd_bound s.start s.end exps j end) in
-    let lev = masked_level (excite_by s.lead p (first_band s) P b) (knee p) (P b) (slice_index (hth_list p.fscod) b) e (knee_most p is) (hearing_small p.fscod b (omega arith)) in
-    baps_rise_with_t (mask p s exps b) (floor_of p) (psd exps k) t u lev (floor_in p.floorcod (omega (arith, is))) h
+    let small = bands_small k (omega (arith, span_end s span)) in
+    baps_rise_with_t (mask p s exps b) (floor_of p) (psd exps k) t u (masks_are_levels p s exps b is span (omega arith)) (floors_are_floors p is) h

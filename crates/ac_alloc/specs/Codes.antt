@@ -1,5 +1,6 @@
 -- What the codes of the bit allocation parameters stand for (A/52 5.4.3.31 to 5.4.3.46, 7.2.2.1).
 use Rattle.std.specs.Prelude.{ℕ, ◌+◌, ◌*◌, ◌≤◌, ℤ, pos, negsuc, List, [], ◌∷◌, slice_index, slice_index_or}
+use Rattle.ac_base.specs.Profile.{sent_sdcycod, sent_fdcycod, sent_sgaincod, sent_dbpbcod, sent_floorcod, sent_fgaincod, sent_cplfleak, sent_cplsleak}
 use Rattle.ac_alloc.specs.declared.params.Params.{Params}
 
 -- each within the width of its field (A/52 5.4.1.3, 5.4.3.31 to 5.4.3.46)
@@ -7,10 +8,19 @@ abbrev pub IsParams : Params → Type 0
 IsParams p =
     (p.fscod ≤ 2) × (p.sdcycod ≤ 3) × (p.fdcycod ≤ 3) × (p.sgaincod ≤ 3) × (p.dbpbcod ≤ 3) × (p.floorcod ≤ 7) × (p.fgaincod ≤ 7) × (p.cplfleak ≤ 7) × (p.cplsleak ≤ 7)
 
--- those of the encoder: this project's profile
+-- those that the encoder sends at a rate of sampling: this project's profile
 abbrev pub encoder_params : ℕ → Params
-encoder_params fscod =
-    record { fscod = fscod; sdcycod = 2; fdcycod = 1; sgaincod = 1; dbpbcod = 3; floorcod = 7; fgaincod = 4; cplfleak = 0; cplsleak = 0 }
+encoder_params fscod = record {
+  fscod = fscod;
+  sdcycod = sent_sdcycod;
+  fdcycod = sent_fdcycod;
+  sgaincod = sent_sgaincod;
+  dbpbcod = sent_dbpbcod;
+  floorcod = sent_floorcod;
+  fgaincod = sent_fgaincod;
+  cplfleak = sent_cplfleak;
+  cplsleak = sent_cplsleak;
+}
 
 -- by sdcycod (A/52 Table 7.6)
 abbrev pub slow_decays : List ℕ

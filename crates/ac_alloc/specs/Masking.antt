@@ -1,11 +1,12 @@
 -- The masking curve of a coded channel (A/52 7.2.2.5).
-use Rattle.std.specs.Prelude.{ℕ, ◌/◌, ◌-◌, ◌≤◌, ℤ, pos, negsuc, ◌+ℤ◌, ◌≤ℤ◌, unsigned_abs, List, slice_index, slice_index_or, if◌then◌else◌, nat_lt}
+use Rattle.std.specs.Prelude.{◌≡◌, ℕ, ◌/◌, ◌-◌, ◌<◌, ◌≤◌, ℤ, pos, negsuc, ◌+ℤ◌, ◌≤ℤ◌, unsigned_abs, List, slice_index, slice_index_or, if◌then◌else◌, nat_lt}
 use Rattle.std.specs.Int.{int_max}
 use Rattle.ac_base.specs.declared.spans.Span.{Span}
-use Rattle.ac_base.specs.Allocation.{masktab_list, hth_list}
+use Rattle.ac_base.specs.Shape.{IsSpan}
+use Rattle.ac_base.specs.Allocation.{bands, masktab_list, hth_list}
 use Rattle.ac_alloc.specs.declared.params.Params.{Params}
 use Rattle.ac_alloc.specs.declared.mask.Mask.{Mask}
-use Rattle.ac_alloc.specs.Codes.{knee}
+use Rattle.ac_alloc.specs.Codes.{IsParams, knee, floor_of}
 use Rattle.ac_alloc.specs.Integration.{bndpsd}
 use Rattle.ac_alloc.specs.Excitation.{excite_by}
 
@@ -32,6 +33,19 @@ IsLevel m = (pos 0 ≤ℤ m) × (unsigned_abs m ≤ 5120)
 
 abbrev pub IsFloor : ℤ → Type 0
 IsFloor f = (negsuc 2047 ≤ℤ f) × (f ≤ℤ pos 752)
+
+-- the masks of a coded channel's bands, and the floor under them
+abbrev pub IsMaskOf : Params → Span → List ℕ → Mask → Type 0
+IsMaskOf p s exps m =
+    ((b : ℕ) → first_band s ≤ b → b ≤ last_band s → slice_index_or m.m b (pos 0) ≡ mask p s exps b) × (m.floor ≡ floor_of p)
+
+-- the mask of each band of a coded channel is a level
+abbrev pub MasksAreLevels : Type 0
+MasksAreLevels = (p : Params) (s : Span) (exps : List ℕ) (b : ℕ) → IsParams p → IsSpan s → b < bands → IsLevel (mask p s exps b)
+
+-- and its floor is a floor
+abbrev pub FloorsAreFloors : Type 0
+FloorsAreFloors = (p : Params) → IsParams p → IsFloor (floor_of p)
 
 abbrev pub IsMask : Mask → Type 0
 IsMask mask = ((b : ℕ) → IsLevel (slice_index_or mask.m b (pos 0))) × IsFloor mask.floor

@@ -1,13 +1,15 @@
 -- The bit allocation pointers of bins by the masks of their bands (A/52 7.2.2.7), and that they rise with the offset.
-use Rattle.std.specs.Prelude.{ℕ, ◌*◌, ◌/◌, ◌<◌, ◌≤◌, min, ℤ, pos, negsuc, List, ◌+ℤ◌, ◌-ℤ◌, slice_index, bit_and}
+use Rattle.std.specs.Prelude.{◌≡◌, ℕ, ◌*◌, ◌/◌, ◌<◌, ◌≤◌, min, ℤ, pos, negsuc, List, ◌+ℤ◌, ◌-ℤ◌, slice_index, slice_index_or, bit_and, Bool, if◌then◌else◌}
 use Rattle.std.specs.Int.{int_max, int_min}
 use Rattle.ac_base.specs.declared.spans.Span.{Span}
 use Rattle.ac_base.specs.Shape.{IsSpan}
+use Rattle.ac_base.specs.Spans.{IsIn}
 use Rattle.ac_base.specs.Allocation.{baptab_list, masktab_list}
 use Rattle.ac_alloc.specs.declared.params.Params.{Params}
 use Rattle.ac_alloc.specs.Codes.{floor_of, IsParams}
 use Rattle.ac_alloc.specs.Integration.{psd}
-use Rattle.ac_alloc.specs.Masking.{IsLevel, IsFloor, mask}
+use Rattle.ac_alloc.specs.declared.mask.Mask.{Mask}
+use Rattle.ac_alloc.specs.Masking.{IsLevel, IsFloor, IsMaskOf, mask}
 
 -- a number, and 0 for one below 0: how A/52 7.2.2.7 keeps both a mask less the floor and an address from falling below 0
 abbrev pub natural : ℤ → ℕ
@@ -42,7 +44,31 @@ bap mask floor psd t = bap_of (level mask floor t) psd
 abbrev pub bap_at : Params → Span → List ℕ → ℕ → ℕ → ℕ
 bap_at p s exps k t = bap (mask p s exps (slice_index masktab_list k)) (floor_of p) (psd exps k) t
 
--- a bin's pointer never falls as the offset rises, for each mask and floor: a law that the standard doesn't state
+-- the pointer of bin k of a coded channel in a block: 0 where it is silent, with all its SNR offset codes 0 (A/52 7.2.2.7)
+abbrev pub pointer : Bool → Params → Span → List ℕ → ℕ → ℕ → ℕ
+pointer silent p s exps k t = if silent then 0 else bap_at p s exps k t
+
+-- a list has the pointers of a coded channel at the bins of its span
+abbrev pub ArePointers : Bool → Params → Span → List ℕ → ℕ → List ℕ → Type 0
+ArePointers silent p s exps t baps = (k : ℕ) → IsIn s k → slice_index baps k ≡ pointer silent p s exps k t
+
+-- two lists of exponents agree on the bins of a span
+abbrev pub Agree : Span → List ℕ → List ℕ → Type 0
+Agree s exps others = (k : ℕ) → IsIn s k → slice_index exps k ≡ slice_index others k
+
+-- ---- laws that the standard doesn't state
+-- masks depend on the exponents of the bins of the span alone
+abbrev pub MasksAreBySpan : Type 0
+MasksAreBySpan =
+    (p : Params) (s : Span) (exps others : List ℕ) (b : ℕ) → IsSpan s → Agree s exps others → mask p s exps b ≡ mask p s others b
+
+-- so do pointers
+abbrev pub PointersAreBySpan : Type 0
+PointersAreBySpan =
+    (silent : Bool) (p : Params) (s : Span) (exps others : List ℕ) (k t : ℕ)
+    → IsSpan s → Agree s exps others → IsIn s k → pointer silent p s exps k t ≡ pointer silent p s others k t
+
+-- a bin's pointer never falls as the offset rises, for each mask and floor
 abbrev pub BapsRise : Type 0
 BapsRise =
     (mask floor : ℤ) (psd t u : ℕ) → IsLevel mask → IsFloor floor → t ≤ u → bap mask floor psd t ≤ bap mask floor psd u

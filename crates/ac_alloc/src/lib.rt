@@ -13,7 +13,7 @@ mod pointers;
 #[cfg(test)]
 mod tests;
 
-pub use laws::allocation_laws;
+pub use laws::{allocation_laws, key_laws};
 pub use mask::Mask;
 pub use params::Params;
 pub use pointers::{address, baps};

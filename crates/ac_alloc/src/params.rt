@@ -1,6 +1,8 @@
 //! The parameters of the bit allocation, and what their codes stand for (A/52 5.4.3.31 to 5.4.3.46, 7.2.2.1).
 ghost use Rattle.std.specs.Prelude.{◌≡◌, ◌≤◌, ◌+◌, ◌*◌, ◌-◌, ℕ, slice_index, slice_index_or, pos};
 
+use ac_base::{CPLFLEAK, CPLSLEAK, DBPBCOD, FDCYCOD, FGAINCOD, FLOORCOD, SDCYCOD, SGAINCOD};
+
 /// The parameters of a coded channel's bit allocation in a block. Calls that take them ask that each is within the
 /// width of its field: fscod at most 2, those of two bits at most 3, those of three bits at most 7.
 #[derive(Clone, Copy, Debug, PartialEq, Eq)]
@@ -52,14 +54,14 @@ impl Params {
     {
         Params {
             fscod,
-            sdcycod: 2,
-            fdcycod: 1,
-            sgaincod: 1,
-            dbpbcod: 3,
-            floorcod: 7,
-            fgaincod: 4,
-            cplfleak: 0,
-            cplsleak: 0,
+            sdcycod: SDCYCOD,
+            fdcycod: FDCYCOD,
+            sgaincod: SGAINCOD,
+            dbpbcod: DBPBCOD,
+            floorcod: FLOORCOD,
+            fgaincod: FGAINCOD,
+            cplfleak: CPLFLEAK,
+            cplsleak: CPLSLEAK,
         }
     }
 
