@@ -40,6 +40,10 @@ bap_of level psd = slice_index baptab_list (address level psd)
 abbrev pub bap : ℤ → ℤ → ℕ → ℕ → ℕ
 bap mask floor psd t = bap_of (level mask floor t) psd
 
+-- of bin k under the masks of bands (A/52 7.2.2.7)
+abbrev pub bap_under : Mask → List ℕ → ℕ → ℕ → ℕ
+bap_under m exps k t = bap (slice_index_or m.m (slice_index masktab_list k) (pos 0)) m.floor (psd exps k) t
+
 -- of bin k of a coded channel (A/52 7.2.2)
 abbrev pub bap_at : Params → Span → List ℕ → ℕ → ℕ → ℕ
 bap_at p s exps k t = bap (mask p s exps (slice_index masktab_list k)) (floor_of p) (psd exps k) t

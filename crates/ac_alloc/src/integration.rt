@@ -17,9 +17,10 @@ fn log_add(a: u16, b: u16) -> u16
     a.max(b) + u16::from(latab(apart as u8))
 }
 
-/// The power spectral density of a bin by its exponent: 128 for each step of 6 dB.
+/// The power spectral density of a bin by its exponent, at most 24: 3072 at 0, and 128 less for each step of 6 dB
+/// (A/52 7.2.2.2).
 #[inline]
-pub(crate) fn psd(exp: u8) -> u16
+pub fn psd(exp: u8) -> u16
     requires { exp ≤ 24 }
     ensures value { result ≡ 3072 - 128 * exp }
     ensures bound { result ≤ 3072 }

@@ -16,4 +16,5 @@ mod tests;
 pub use laws::{allocation_laws, key_laws};
 pub use mask::Mask;
 pub use params::Params;
-pub use pointers::{address, baps};
+pub use integration::psd;
+pub use pointers::{address, bap_of, baps, level};

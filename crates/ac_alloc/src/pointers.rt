@@ -1,6 +1,8 @@
 //! The bit allocation pointers of the bins of a coded channel (A/52 7.2.2.7).
 ghost use Rattle.std.specs.Prelude.{◌≡◌, ◌<◌, ◌≤◌, ◌+◌, ◌*◌, ◌-◌, ◌^◌, ◌⊎◌, ℕ, ℤ, pos, ◌+ℤ◌, ◌-ℤ◌, ◌≤ℤ◌, unsigned_abs, slice_index, slice_index_or, bit_and, if◌then◌else◌};
-ghost use Rattle.ac_alloc.specs.Pointers.{natural, snr_offset, level, kept, address, bap, bap_of};
+ghost use Rattle.ac_alloc.specs.Pointers.{natural, snr_offset, level, kept, address, bap_of, bap_under, ArePointers};
+ghost use Rattle.ac_alloc.specs.Masking.{IsFloor, IsMaskOf};
+ghost use Rattle.ac_alloc.specs.declared.params.Params.{Params};
 ghost use Rattle.ac_base.specs.Shape.{IsSpan};
 ghost use Rattle.ac_alloc.specs.Integration.{AreExponents, psd};
 ghost use Rattle.ac_base.specs.Allocation.{masktab_list};
@@ -80,6 +82,7 @@ fn address_at(raised: u16, psd: u16) -> u8
 fn bap_at(raised: u16, psd: u16) -> u8
     requires psd { psd ≤ 3072 }
     ensures value { (level : ℤ) → pos raised ≡ kept level +ℤ pos 2048 → result ≡ bap_of level psd }
+    ensures bound { result ≤ 15 }
 {
     baptab(address_at(raised, psd))
 }
@@ -94,15 +97,36 @@ pub fn address(mask: i32, floor: i32, psd: u16, t: u16) -> u8
     address_at(raised_level(mask, floor, t), psd)
 }
 
+/// The level of a band at the offset t = 16 csnroffst + fsnroffst: what stands of its mask above the offset and the floor,
+/// in steps of 32, on the floor (A/52 7.2.2.7). The floor is one of those by floorcod.
+pub fn level(mask: i32, floor: i32, t: u16) -> i32
+    requires floor { IsFloor floor }
+    requires t { t ≤ 1023 }
+    ensures value { result ≡ level mask floor t }
+{
+    i32::from(stepped(natural_of(gap(mask, floor, t)))) + floor
+}
+
+/// The bit allocation pointer of a bin of power spectral density `psd` in a band of this level (A/52 7.2.2.7, Table 7.16).
+pub fn bap_of(level: i32, psd: u16) -> u8
+    requires psd { psd ≤ 3072 }
+    ensures value { result ≡ bap_of level psd }
+    ensures bound { result ≤ 15 }
+{
+    bap_at(raised(0, level), psd)
+}
+
 /// Writes the bit allocation pointer (bap) of each bin of a span to `out`, at the offset t = 16 csnroffst + fsnroffst.
 ///
-/// `silent` says that all SNR offset codes of the block are 0; then every bap is 0. What stands outside the span in
-/// `out` stays, and exponents outside it aren't read.
+/// `silent` says that all SNR offset codes of the block are 0; then every bap is 0. After `Mask::of` for the same span and
+/// exponents these are the pointers of the channel. What stands outside the span in `out` stays, and exponents outside it
+/// aren't read.
 pub fn baps(mask: &Mask, span: &Span, exps: &[u8; 256], t: u16, silent: bool, out: &mut [u8; 256])
     requires span { IsSpan span.now }
     requires exps { AreExponents span.now.start span.now.end exps.now }
     requires t { t ≤ 1023 }
-    ensures bins { (k : ℕ) → span.now.start ≤ k → k < span.now.end → slice_index out.new k ≡ (if silent then 0 else bap (slice_index_or mask.now.m (slice_index masktab_list k) (pos 0)) mask.now.floor (psd exps.now k) t) }
+    ensures bins { (k : ℕ) → span.now.start ≤ k → k < span.now.end → slice_index out.new k ≡ (if silent then 0 else bap_under mask.now exps.now k t) }
+    ensures value { (p : Params) → IsMaskOf p span.now exps.now mask.now → ArePointers silent p span.now exps.now t out.new }
     ensures rest { (k : ℕ) → (k < span.now.start) ⊎ (span.now.end ≤ k) → slice_index out.new k ≡ slice_index out.old k }
 {
     if silent {
