@@ -1,5 +1,5 @@
 -- The law of the keys.
-use Rattle.std.proofs.Common.{◌≡◌, ℕ, zero, suc, subst, ◌+◌, ◌*◌, ◌-◌, ◌/◌, ◌<◌, ◌≤◌, min, ℤ, pos, negsuc, ◌-ℤ◌, ◌+ℤ◌, ◌≤ℤ◌, List, slice_index, bit_and, arith, ap, sym, ◌∙◌, refl}
+use Rattle.std.proofs.Common.{◌≡◌, ℕ, zero, suc, subst, ◌+◌, ◌*◌, ◌-◌, ◌/◌, ◌<◌, ◌≤◌, min, ℤ, pos, negsuc, ◌-ℤ◌, ◌+ℤ◌, ◌≤ℤ◌, slice_index, bit_and, arith, ap, sym, ◌∙◌, refl}
 use Rattle.std.specs.Prelude.{nat_le}
 use Rattle.std.proofs.lemmas.Int.{ints}
 use Rattle.std.proofs.lemmas.Nat.Bits.{and_high_mask}
@@ -7,18 +7,16 @@ use Rattle.std.proofs.lemmas.Bool.{leb-true}
 use Rattle.ac_base.specs.Allocation.{baptab_list}
 use Rattle.ac_base.specs.Floor.{floor_div}
 use Rattle.ac_base.proofs.Tests.{all_below-at}
-use Rattle.ac_base.proofs.AllocationTables.{baps_rise, baps_small, all_rises}
+use Rattle.ac_base.proofs.AllocationTables.{baps_rise, baps_small}
 use Rattle.ac_alloc.specs.Masking.{IsLevel}
-use Rattle.ac_alloc.specs.Pointers.{natural, snr_offset, level, address}
-use Rattle.ac_base.specs.declared.spans.Span.{Span}
+use Rattle.ac_alloc.specs.Pointers.{natural, snr_offset, level, address, bap}
 use Rattle.ac_base.specs.Allocation.{masktab_list}
-use Rattle.ac_base.specs.Shape.{IsSpan}
 use Rattle.ac_base.proofs.AllocationTables.{bands_small}
 use Rattle.ac_base.proofs.SpanBounds.{span_end}
-use Rattle.ac_alloc.specs.Codes.{encoder_params}
+use Rattle.ac_alloc.specs.Integration.{psd}
 use Rattle.ac_alloc.specs.Masking.{mask}
-use Rattle.ac_alloc.specs.Keys.{lowest, key, key_of, place, pointer_above, sixths_by, sixths_above, LowestIsSent, BapsAreByKey, EncodersAreByKey, SixthsRise}
-use Rattle.ac_alloc.proofs.Rising.{masks_are_levels, encoder_within}
+use Rattle.ac_alloc.specs.Keys.{lowest, key, place, pointer_above, sixths_by, LowestIsSent, BapsAreByKey, ChannelsAreByKey, SixthsRise}
+use Rattle.ac_alloc.proofs.Rising.{masks_are_levels}
 
 natural_of : (x : ℤ) (n m : ℕ) → x ≡ pos n -ℤ pos m → natural x ≡ n - m
 natural_of (pos k) n m e = omega (arith, ints, e)
@@ -73,15 +71,15 @@ pub baps_are_by_key : BapsAreByKey
 baps_are_by_key mask e t is l = address_is mask e t is l
 
 pub lowest_is_sent : LowestIsSent
-lowest_is_sent fscod = refl
+lowest_is_sent fscod rate = refl
 
-pub encoders_are_by_key : EncodersAreByKey
-encoders_are_by_key fscod s exps k t rate is inside small =
-    let p = encoder_params fscod in
+pub channels_are_by_key : ChannelsAreByKey
+channels_are_by_key p s exps k t low is inside small =
     let b = slice_index masktab_list k in
+    let m = mask p s exps b in
     let near = bands_small k (omega (arith, inside.1, span_end s is)) in
-    let lev = masks_are_levels p s exps b (encoder_within fscod rate) is (omega arith) in
-    ap (slice_index baptab_list) (address_is (mask p s exps b) (slice_index exps k) t lev small)
+    let lev = masks_are_levels p s exps b is (omega arith) in
+    ap (λ f. bap m f (psd exps k) t) low ∙ ap (slice_index baptab_list) (address_is m (slice_index exps k) t lev small)
 
 -- ---- what a bin costs rises
 zero_more : (i : ℕ) → i + 0 ≡ i

@@ -9,7 +9,7 @@ use Rattle.ac_alloc.specs.declared.params.Params.{Params}
 use Rattle.ac_base.specs.declared.spans.Lead.{Lead}
 use Rattle.ac_base.specs.declared.spans.Lead.TheVariants as lead
 use Rattle.ac_base.specs.Allocation.{bndtab_list, masktab_list, hth_list}
-use Rattle.ac_alloc.specs.Codes.{IsParams, encoder_params, slow_gains, knees, floors, fast_gain, slow_gain, fast_decay, slow_decay, fast_start, slow_start, knee, floor_of}
+use Rattle.ac_alloc.specs.Codes.{slow_gains, knees, floors, fast_gain, slow_gain, fast_decay, slow_decay, fast_start, slow_start, knee, floor_of}
 use Rattle.ac_alloc.specs.Integration.{folded, psd, bndpsd, first_bin, last_bin}
 use Rattle.ac_alloc.specs.Excitation.{greatest, leak, leak_from, joined, low, begin, excite, excite_coupling, excite_by}
 use Rattle.ac_alloc.specs.Masking.{masked, IsLevel, IsFloor, MasksAreLevels, FloorsAreFloors, mask, first_band}
@@ -90,40 +90,40 @@ either false x y m p q = q
 fast_gain_least : (p : Params) → 128 ≤ fast_gain p
 fast_gain_least p = omega arith
 
-slow_gain_least : (p : Params) → IsParams p → 128 ≤ slow_gain p
-slow_gain_least p is =
-    leb-true _ _ (all_below-at 4 (λ k. nat_le 128 (slice_index slow_gains k)) refl p.sgaincod (omega (arith, is)))
+slow_gain_least : (p : Params) → 128 ≤ slow_gain p
+slow_gain_least p =
+    leb-true _ _ (all_below-at 4 (λ k. nat_le 128 (slice_index slow_gains k)) refl p.sgaincod (omega (arith, p.gain)))
 
-knee_most : (p : Params) → IsParams p → knee p ≤ 2816
-knee_most p is =
-    leb-true _ _ (all_below-at 4 (λ k. nat_le (slice_index knees k) 2816) refl p.dbpbcod (omega (arith, is)))
+knee_most : (p : Params) → knee p ≤ 2816
+knee_most p =
+    leb-true _ _ (all_below-at 4 (λ k. nat_le (slice_index knees k) 2816) refl p.dbpbcod (omega (arith, p.below)))
 
-excite_bound : (p : Params) → IsParams p → (lfe : Bool) (P : ℕ → ℕ) (b : ℕ) → ((j : ℕ) → P j ≤ 4544) → excite p lfe P b ≤ℤ pos 4416
-excite_bound p is lfe P b h =
+excite_bound : (p : Params) → (lfe : Bool) (P : ℕ → ℕ) (b : ℕ) → ((j : ℕ) → P j ≤ 4544) → excite p lfe P b ≤ℤ pos 4416
+excite_bound p lfe P b h =
     let z = begin lfe P in
     let f = leak P (fast_gain p) (fast_decay p) (z - 1) b in
     let s = leak P (slow_gain p) (slow_decay p) (z - 1) b in
     let l = low lfe P b in
     let fb = leak_bound P (fast_gain p) (fast_decay p) (z - 1) b h (fast_gain_least p) in
-    let sb = leak_bound P (slow_gain p) (slow_decay p) (z - 1) b h (slow_gain_least p is) in
+    let sb = leak_bound P (slow_gain p) (slow_decay p) (z - 1) b h (slow_gain_least p) in
     either (nat_lt b z) (pos (P b) -ℤ pos (fast_gain p) -ℤ pos l) (joined f s l b) (pos 4416) (term_bound (P b) (fast_gain p) l (h b) (fast_gain_least p)) (either (nat_le b 21) (int_max (f -ℤ pos l) s) (int_max f s) (pos 4416) (max_bound (f -ℤ pos l) s (pos 4416) (less_bound f (pos 4416) l fb) sb) (max_bound f s (pos 4416) fb sb))
 
 start_bound : (n d : ℕ) → n ≤ 2560 → (pos n -ℤ pos d) ≤ℤ pos 4416
 start_bound n d l = omega (arith, ints)
 
-coupling_bound : (p : Params) → IsParams p → (a : ℕ) (P : ℕ → ℕ) (b : ℕ) → ((j : ℕ) → P j ≤ 4544) → excite_coupling p a P b ≤ℤ pos 4416
-coupling_bound p is a P b h =
+coupling_bound : (p : Params) → (a : ℕ) (P : ℕ → ℕ) (b : ℕ) → ((j : ℕ) → P j ≤ 4544) → excite_coupling p a P b ≤ℤ pos 4416
+coupling_bound p a P b h =
     let fb = leak_bound P (fast_gain p) (fast_decay p) a b h (fast_gain_least p) in
-    let sb = leak_bound P (slow_gain p) (slow_decay p) a b h (slow_gain_least p is) in
-    let f0 = start_bound (fast_start p) (fast_decay p * (b - a + 1)) (omega (arith, is)) in
-    let s0 = start_bound (slow_start p) (slow_decay p * (b - a + 1)) (omega (arith, is)) in
+    let sb = leak_bound P (slow_gain p) (slow_decay p) a b h (slow_gain_least p) in
+    let f0 = start_bound (fast_start p) (fast_decay p * (b - a + 1)) (omega (arith, p.fast_leak)) in
+    let s0 = start_bound (slow_start p) (slow_decay p * (b - a + 1)) (omega (arith, p.slow_leak)) in
     max_bound (leak_from (pos (fast_start p)) P (fast_gain p) (fast_decay p) a b) (leak_from (pos (slow_start p)) P (slow_gain p) (slow_decay p) a b) (pos 4416) (max_bound (pos (fast_start p) -ℤ pos (fast_decay p * (b - a + 1))) (leak P (fast_gain p) (fast_decay p) a b) (pos 4416) f0 fb) (max_bound (pos (slow_start p) -ℤ pos (slow_decay p * (b - a + 1))) (leak P (slow_gain p) (slow_decay p) a b) (pos 4416) s0 sb)
 
-by_bound : (l : Lead) (p : Params) → IsParams p → (a : ℕ) (P : ℕ → ℕ) (b : ℕ) → ((j : ℕ) → P j ≤ 4544) → excite_by l p a P b ≤ℤ pos 4416
-by_bound lead.Free p is a P b h = excite_bound p is false P b h
-by_bound lead.Coupled p is a P b h = excite_bound p is false P b h
-by_bound lead.Coupling p is a P b h = coupling_bound p is a P b h
-by_bound lead.Low p is a P b h = excite_bound p is true P b h
+by_bound : (l : Lead) (p : Params) → (a : ℕ) (P : ℕ → ℕ) (b : ℕ) → ((j : ℕ) → P j ≤ 4544) → excite_by l p a P b ≤ℤ pos 4416
+by_bound lead.Free p a P b h = excite_bound p false P b h
+by_bound lead.Coupled p a P b h = excite_bound p false P b h
+by_bound lead.Coupling p a P b h = coupling_bound p a P b h
+by_bound lead.Low p a P b h = excite_bound p true P b h
 
 grown_bound : (x : ℤ) (n : ℕ) → x ≤ℤ pos 4416 → n ≤ 704 → (x +ℤ pos n) ≤ℤ pos 5120
 grown_bound x n p q = omega (arith, ints)
@@ -149,19 +149,16 @@ floor_in (suc (suc (suc (suc (suc (suc (suc zero))))))) h = search rules
 floor_in (suc (suc (suc (suc (suc (suc (suc (suc k)))))))) h = absurd (omega arith)
 
 pub masks_are_levels : MasksAreLevels
-masks_are_levels p s exps b is span below =
+masks_are_levels p s exps b span below =
     let P = bndpsd s.start s.end exps in
-    let e = by_bound s.lead p is (first_band s) P b (λ j. bndpsd_bound s.start s.end exps j (span_end s span)) in
-    masked_level (excite_by s.lead p (first_band s) P b) (knee p) (P b) (slice_index (hth_list p.fscod) b) e (knee_most p is) (hearing_small p.fscod b below)
+    let e = by_bound s.lead p (first_band s) P b (λ j. bndpsd_bound s.start s.end exps j (span_end s span)) in
+    masked_level (excite_by s.lead p (first_band s) P b) (knee p) (P b) (slice_index (hth_list p.fscod) b) e (knee_most p) (hearing_small p.fscod b below)
 
 pub floors_are_floors : FloorsAreFloors
-floors_are_floors p is = floor_in p.floorcod (omega (arith, is))
-
-pub encoder_within : (fscod : ℕ) → fscod ≤ 2 → IsParams (encoder_params fscod)
-encoder_within fscod rate = (rate, omega arith, omega arith, omega arith, omega arith, omega arith, omega arith, omega arith, omega arith)
+floors_are_floors p = floor_in p.floorcod (omega (arith, p.least))
 
 pub bap_rises : BapRisesWithOffset
-bap_rises p s exps k t u is span l m h =
+bap_rises p s exps k t u span l m h =
     let b = slice_index masktab_list k in
     let small = bands_small k (omega (arith, span_end s span)) in
-    baps_rise_with_t (mask p s exps b) (floor_of p) (psd exps k) t u (masks_are_levels p s exps b is span (omega arith)) (floors_are_floors p is) h
+    baps_rise_with_t (mask p s exps b) (floor_of p) (psd exps k) t u (masks_are_levels p s exps b span (omega arith)) (floors_are_floors p) h

@@ -13,10 +13,9 @@ use Rattle.ac_base.proofs.AllocationTables.{all_rises, bands_small}
 use Rattle.ac_base.specs.Spans.{IsIn}
 use Rattle.ac_alloc.specs.declared.mask.Mask.{Mask}
 use Rattle.ac_alloc.specs.declared.params.Params.{Params}
-use Rattle.ac_alloc.specs.Codes.{floor_of}
 use Rattle.ac_alloc.specs.Excitation.{AreBands}
 use Rattle.ac_alloc.specs.Integration.{psd}
-use Rattle.ac_alloc.specs.Masking.{IsMaskOf, mask, first_band, last_band}
+use Rattle.ac_alloc.specs.Masking.{IsMaskOf, mask}
 use Rattle.ac_alloc.specs.Pointers.{bap, bap_at, bap_under}
 
 pub late_band : (k : ℕ) → k < 217 → 30 ≤ slice_index masktab_list (36 + k)

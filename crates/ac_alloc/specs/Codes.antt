@@ -1,16 +1,12 @@
 -- What the codes of the bit allocation parameters stand for (A/52 5.4.3.31 to 5.4.3.46, 7.2.2.1).
+use native.Mathlib.Nat.{le-add_right}
 use Rattle.std.specs.Prelude.{ℕ, ◌+◌, ◌*◌, ◌≤◌, ℤ, pos, negsuc, List, [], ◌∷◌, slice_index, slice_index_or}
 use Rattle.ac_base.specs.Profile.{sent_sdcycod, sent_fdcycod, sent_sgaincod, sent_dbpbcod, sent_floorcod, sent_fgaincod, sent_cplfleak, sent_cplsleak}
 use Rattle.ac_alloc.specs.declared.params.Params.{Params}
 
--- each within the width of its field (A/52 5.4.1.3, 5.4.3.31 to 5.4.3.46)
-abbrev pub IsParams : Params → Type 0
-IsParams p =
-    (p.fscod ≤ 2) × (p.sdcycod ≤ 3) × (p.fdcycod ≤ 3) × (p.sgaincod ≤ 3) × (p.dbpbcod ≤ 3) × (p.floorcod ≤ 7) × (p.fgaincod ≤ 7) × (p.cplfleak ≤ 7) × (p.cplsleak ≤ 7)
-
 -- those that the encoder sends at a rate of sampling: this project's profile
-abbrev pub encoder_params : ℕ → Params
-encoder_params fscod = record {
+abbrev pub encoder_params : (fscod : ℕ) → fscod ≤ 2 → Params
+encoder_params fscod rate = record {
   fscod = fscod;
   sdcycod = sent_sdcycod;
   fdcycod = sent_fdcycod;
@@ -20,6 +16,15 @@ encoder_params fscod = record {
   fgaincod = sent_fgaincod;
   cplfleak = sent_cplfleak;
   cplsleak = sent_cplsleak;
+  rate = rate;
+  slow = le-add_right sent_sdcycod 1;
+  fast = le-add_right sent_fdcycod 2;
+  gain = le-add_right sent_sgaincod 2;
+  below = le-add_right sent_dbpbcod 0;
+  least = le-add_right sent_floorcod 0;
+  own_gain = le-add_right sent_fgaincod 3;
+  fast_leak = le-add_right sent_cplfleak 7;
+  slow_leak = le-add_right sent_cplsleak 7;
 }
 
 -- by sdcycod (A/52 Table 7.6)

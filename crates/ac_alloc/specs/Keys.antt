@@ -7,6 +7,7 @@ use Rattle.ac_base.specs.Counts.{tally_of, sixths_of}
 use Rattle.ac_base.specs.Floor.{floor_div}
 use Rattle.ac_base.specs.Shape.{IsSpan}
 use Rattle.ac_base.specs.Spans.{IsIn}
+use Rattle.ac_alloc.specs.declared.params.Params.{Params}
 use Rattle.ac_alloc.specs.Codes.{encoder_params, floor_of}
 use Rattle.ac_alloc.specs.Masking.{IsLevel, mask}
 use Rattle.ac_alloc.specs.Pointers.{natural, level, address, bap_at}
@@ -38,7 +39,7 @@ sixths_above d = sixths_by (pointer_above d)
 -- ---- laws
 -- the encoder sends the lowest floor
 abbrev pub LowestIsSent : Type 0
-LowestIsSent = (fscod : ℕ) → floor_of (encoder_params fscod) ≡ lowest
+LowestIsSent = (fscod : ℕ) (rate : fscod ≤ 2) → floor_of (encoder_params fscod rate) ≡ lowest
 
 -- key less offset is all that the place depends on
 abbrev pub BapsAreByKey : Type 0
@@ -46,16 +47,16 @@ BapsAreByKey =
     (mask : ℤ) (exponent t : ℕ)
     → IsLevel mask → exponent ≤ 24 → address (level mask lowest t) (3072 - 128 * exponent) ≡ place (pos (key mask exponent) -ℤ pos t)
 
--- the key of bin k of a coded channel with the encoder's parameters
-abbrev pub key_of : ℕ → Span → List ℕ → ℕ → ℕ
-key_of fscod s exps k = key (mask (encoder_params fscod) s exps (slice_index masktab_list k)) (slice_index exps k)
+-- the key of bin k of a coded channel
+abbrev pub key_of : Params → Span → List ℕ → ℕ → ℕ
+key_of p s exps k = key (mask p s exps (slice_index masktab_list k)) (slice_index exps k)
 
--- the law for these channels
-abbrev pub EncodersAreByKey : Type 0
-EncodersAreByKey =
-    (fscod : ℕ) (s : Span) (exps : List ℕ) (k t : ℕ)
-    → fscod ≤ 2 → IsSpan s → IsIn s k → slice_index exps k ≤ 24
-    → bap_at (encoder_params fscod) s exps k t ≡ pointer_above (pos (key_of fscod s exps k) -ℤ pos t)
+-- the law for channels with the lowest floor, as those of the encoder
+abbrev pub ChannelsAreByKey : Type 0
+ChannelsAreByKey =
+    (p : Params) (s : Span) (exps : List ℕ) (k t : ℕ)
+    → floor_of p ≡ lowest → IsSpan s → IsIn s k → slice_index exps k ≤ 24
+    → bap_at p s exps k t ≡ pointer_above (pos (key_of p s exps k) -ℤ pos t)
 
 -- the less the key is above the offset, the more a bin costs
 abbrev pub SixthsRise : Type 0

@@ -6,7 +6,7 @@ use Rattle.ac_base.specs.Shape.{IsSpan}
 use Rattle.ac_base.specs.Allocation.{bands, masktab_list, hth_list}
 use Rattle.ac_alloc.specs.declared.params.Params.{Params}
 use Rattle.ac_alloc.specs.declared.mask.Mask.{Mask}
-use Rattle.ac_alloc.specs.Codes.{IsParams, knee, floor_of}
+use Rattle.ac_alloc.specs.Codes.{knee, floor_of}
 use Rattle.ac_alloc.specs.Integration.{bndpsd}
 use Rattle.ac_alloc.specs.Excitation.{excite_by}
 
@@ -41,11 +41,11 @@ IsMaskOf p s exps m =
 
 -- the mask of each band of a coded channel is a level
 abbrev pub MasksAreLevels : Type 0
-MasksAreLevels = (p : Params) (s : Span) (exps : List ℕ) (b : ℕ) → IsParams p → IsSpan s → b < bands → IsLevel (mask p s exps b)
+MasksAreLevels = (p : Params) (s : Span) (exps : List ℕ) (b : ℕ) → IsSpan s → b < bands → IsLevel (mask p s exps b)
 
 -- and its floor is a floor
 abbrev pub FloorsAreFloors : Type 0
-FloorsAreFloors = (p : Params) → IsParams p → IsFloor (floor_of p)
+FloorsAreFloors = (p : Params) → IsFloor (floor_of p)
 
 abbrev pub IsMask : Mask → Type 0
 IsMask mask = ((b : ℕ) → IsLevel (slice_index_or mask.m b (pos 0))) × IsFloor mask.floor

@@ -6,10 +6,10 @@ use Rattle.ac_base.specs.Shape.{IsSpan}
 use Rattle.ac_base.specs.Spans.{IsIn}
 use Rattle.ac_base.specs.Allocation.{baptab_list, masktab_list}
 use Rattle.ac_alloc.specs.declared.params.Params.{Params}
-use Rattle.ac_alloc.specs.Codes.{floor_of, IsParams}
+use Rattle.ac_alloc.specs.Codes.{floor_of}
 use Rattle.ac_alloc.specs.Integration.{psd}
 use Rattle.ac_alloc.specs.declared.mask.Mask.{Mask}
-use Rattle.ac_alloc.specs.Masking.{IsLevel, IsFloor, IsMaskOf, mask}
+use Rattle.ac_alloc.specs.Masking.{IsLevel, IsFloor, mask}
 
 -- a number, and 0 for one below 0: how A/52 7.2.2.7 keeps both a mask less the floor and an address from falling below 0
 abbrev pub natural : ℤ → ℕ
@@ -80,4 +80,4 @@ BapsRise =
 -- the same for the masks of each coded channel
 abbrev pub BapRisesWithOffset : Type 0
 BapRisesWithOffset =
-    (p : Params) (s : Span) (exps : List ℕ) (k t u : ℕ) → IsParams p → IsSpan s → s.start ≤ k → k < s.end → t ≤ u → bap_at p s exps k t ≤ bap_at p s exps k u
+    (p : Params) (s : Span) (exps : List ℕ) (k t u : ℕ) → IsSpan s → s.start ≤ k → k < s.end → t ≤ u → bap_at p s exps k t ≤ bap_at p s exps k u

@@ -2,7 +2,6 @@
 ghost use Rattle.std.specs.Prelude.{◌≡◌, ◌<◌, ◌≤◌, ◌+◌, ◌*◌, ◌-◌, ◌^◌, ℕ, ℤ, pos, ◌-ℤ◌, ◌≤ℤ◌, unsigned_abs, length, slice_index, slice_index_or, if◌then◌else◌};
 ghost use Rattle.std.specs.Int.{int_max};
 ghost use Rattle.ac_alloc.specs.Excitation.{joined, excite, excite_coupling, excite_by, AreBands};
-ghost use Rattle.ac_alloc.specs.Codes.{IsParams};
 
 use crate::leaks::leaks;
 use crate::lowcomp::{find_begin, lowcomps};
@@ -69,7 +68,6 @@ fn greater_leak(fast: i32, slow: i32) -> i32
 
 /// The excitation of each band of a full channel or of LFE.
 fn excite_channel(p: &Params, bndpsd: &[u16], lfe: bool, out: &mut [i32; 50])
-    requires params { IsParams p.now }
     requires few { length bndpsd.now ≤ (if lfe then 7 else 50) }
     requires some { (if lfe then 7 else 31) ≤ length bndpsd.now }
     requires bounds { (b : ℕ) → slice_index bndpsd.now b ≤ 4544 }
@@ -114,7 +112,6 @@ fn excite_channel(p: &Params, bndpsd: &[u16], lfe: bool, out: &mut [i32; 50])
 
 /// The excitation of each band of the coupling channel, from `from` on.
 fn excite_coupling_channel(p: &Params, bndpsd: &[u16], from: usize, out: &mut [i32; 50])
-    requires params { IsParams p.now }
     requires few { length bndpsd.now ≤ 50 }
     requires order { from ≤ length bndpsd.now }
     requires bounds { (b : ℕ) → slice_index bndpsd.now b ≤ 4544 }
@@ -147,7 +144,6 @@ fn excite_coupling_channel(p: &Params, bndpsd: &[u16], from: usize, out: &mut [i
 /// The excitation of each band of a coded channel, from `from` on. `bndpsd` has the densities of the channel's bands and
 /// of those below, and no more.
 pub(crate) fn excite_span(p: &Params, lead: Lead, bndpsd: &[u16], from: usize, out: &mut [i32; 50])
-    requires params { IsParams p.now }
     requires bands { AreBands lead from (length bndpsd.now) }
     requires bounds { (b : ℕ) → slice_index bndpsd.now b ≤ 4544 }
     ensures values { (b : ℕ) → from ≤ b → b < length bndpsd.now → slice_index_or out.new b (pos 0) ≡ excite_by lead p.now from (λ j. slice_index bndpsd.now j) b }

@@ -1,7 +1,7 @@
 //! The laws of the bit allocation.
 ghost use Rattle.ac_alloc.specs.Masking.{MasksAreLevels, FloorsAreFloors};
 ghost use Rattle.ac_alloc.specs.Pointers.{MasksAreBySpan, PointersAreBySpan, BapsRise, BapRisesWithOffset};
-ghost use Rattle.ac_alloc.specs.Keys.{LowestIsSent, BapsAreByKey, EncodersAreByKey, SixthsRise};
+ghost use Rattle.ac_alloc.specs.Keys.{LowestIsSent, BapsAreByKey, ChannelsAreByKey, SixthsRise};
 
 /// The masks of a coded channel are within their bounds, and depend on the exponents of its span alone, as its bit
 /// allocation pointers do. A pointer never falls as the offset rises: for any mask and floor that can stand, and for the
@@ -20,6 +20,6 @@ pub fn allocation_laws()
 pub fn key_laws()
     ensures floor { LowestIsSent }
     ensures keys { BapsAreByKey }
-    ensures sent { EncodersAreByKey }
+    ensures channels { ChannelsAreByKey }
     ensures rises { SixthsRise }
 {}

@@ -13,8 +13,8 @@ mod pointers;
 #[cfg(test)]
 mod tests;
 
+pub use integration::psd;
 pub use laws::{allocation_laws, key_laws};
 pub use mask::Mask;
 pub use params::Params;
-pub use integration::psd;
 pub use pointers::{address, bap_of, baps, level};

@@ -1,7 +1,7 @@
 //! The masking curve of a coded channel (A/52 7.2.2.5).
 ghost use Rattle.std.specs.Prelude.{◌≡◌, ◌⊎◌, ◌<◌, ◌≤◌, ◌+◌, ◌*◌, ◌-◌, ◌^◌, ℕ, ℤ, pos, ◌-ℤ◌, ◌≤ℤ◌, unsigned_abs, slice_index, slice_index_or, if◌then◌else◌};
 ghost use Rattle.ac_alloc.specs.Masking.{masked, IsLevel, IsMask, mask, first_band, last_band};
-ghost use Rattle.ac_alloc.specs.Codes.{knee, floor_of, IsParams};
+ghost use Rattle.ac_alloc.specs.Codes.{knee, floor_of};
 ghost use Rattle.ac_base.specs.Shape.{IsSpan};
 ghost use Rattle.ac_alloc.specs.Integration.{AreExponents};
 ghost use Rattle.ac_base.specs.Allocation.{hth_list};
@@ -23,7 +23,6 @@ pub struct Mask {
 impl Mask {
     /// The masks of the bands of a span, by the exponents of its bins; others aren't read.
     pub fn of(p: &Params, span: &Span, exps: &[u8; 256]) -> Mask
-        requires params { IsParams p.now }
         requires span { IsSpan span.now }
         requires exps { AreExponents span.now.start span.now.end exps.now }
         ensures masks { (b : ℕ) → first_band span.now ≤ b → b ≤ last_band span.now → slice_index_or result.m b (pos 0) ≡ mask p.now span.now exps.now b }
@@ -73,7 +72,6 @@ fn masks(
     to: usize,
     out: &mut [i32; 50],
 )
-    requires params { IsParams p.now }
     requires few { to ≤ 50 }
     requires order { from ≤ to }
     requires excite { (b : ℕ) → from ≤ b → b < to → unsigned_abs (slice_index_or excite.now b (pos 0)) ≤ 4416 }

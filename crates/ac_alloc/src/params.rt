@@ -3,8 +3,8 @@ ghost use Rattle.std.specs.Prelude.{◌≡◌, ◌≤◌, ◌+◌, ◌*◌, ◌-
 
 use ac_base::{CPLFLEAK, CPLSLEAK, DBPBCOD, FDCYCOD, FGAINCOD, FLOORCOD, SDCYCOD, SGAINCOD};
 
-/// The parameters of a coded channel's bit allocation in a block. Calls that take them ask that each is within the
-/// width of its field: fscod at most 2, those of two bits at most 3, those of three bits at most 7.
+/// The parameters of a coded channel's bit allocation in a block, each within the width of its field: fscod at most 2,
+/// those of two bits at most 3, those of three bits at most 7 (A/52 5.4.1.3, 5.4.3.31 to 5.4.3.46).
 #[derive(Clone, Copy, Debug, PartialEq, Eq)]
 pub struct Params {
     /// The sample rate: 0 for 48 kHz, 1 for 44.1 kHz, 2 for 32 kHz.
@@ -25,6 +25,15 @@ pub struct Params {
     pub cplfleak: u8,
     /// The slow leak of the coupling channel before its first band.
     pub cplsleak: u8,
+    pub ghost rate: { fscod ≤ 2 },
+    pub ghost slow: { sdcycod ≤ 3 },
+    pub ghost fast: { fdcycod ≤ 3 },
+    pub ghost gain: { sgaincod ≤ 3 },
+    pub ghost below: { dbpbcod ≤ 3 },
+    pub ghost least: { floorcod ≤ 7 },
+    pub ghost own_gain: { fgaincod ≤ 7 },
+    pub ghost fast_leak: { cplfleak ≤ 7 },
+    pub ghost slow_leak: { cplsleak ≤ 7 },
 }
 
 /// By sdcycod (A/52 Table 7.6).
@@ -44,13 +53,12 @@ static FLOORS: [i32; 8] = [0x2f0, 0x2b0, 0x270, 0x230, 0x1f0, 0x170, 0x0f0, -204
 
 impl Params {
     ghost use Rattle.ac_alloc.specs.Masking.{IsFloor};
-    ghost use Rattle.ac_alloc.specs.Codes.{fast_gain, slow_gain, fast_decay, slow_decay, fast_start, slow_start, knee, floor_of, IsParams, encoder_params};
+    ghost use Rattle.ac_alloc.specs.Codes.{fast_gain, slow_gain, fast_decay, slow_decay, fast_start, slow_start, knee, floor_of, encoder_params};
 
     /// The parameters with which the encoder writes at a sample rate; the coupling leaks start lowest.
     pub fn encoder(fscod: u8) -> Params
         requires { fscod ≤ 2 }
-        ensures params { result ≡ encoder_params fscod }
-        ensures within { IsParams result }
+        ensures value { (rate : fscod ≤ 2) → result ≡ encoder_params fscod rate }
     {
         Params {
             fscod,
@@ -67,7 +75,6 @@ impl Params {
 
     /// How far the fast leak stands below the density of a band (A/52 Table 7.11).
     pub(crate) fn fast_gain(&self) -> u16
-        requires { IsParams self.now }
         ensures value { result ≡ fast_gain self.now }
         ensures least { 128 ≤ result }
         ensures most { result ≤ 2000 }
@@ -77,7 +84,6 @@ impl Params {
 
     /// How far the slow leak stands below the density of a band.
     pub(crate) fn slow_gain(&self) -> u16
-        requires { IsParams self.now }
         ensures value { result ≡ slow_gain self.now }
         ensures least { 128 ≤ result }
         ensures most { result ≤ 2000 }
@@ -87,7 +93,6 @@ impl Params {
 
     /// How far the fast leak falls in each band.
     pub(crate) fn fast_decay(&self) -> u16
-        requires { IsParams self.now }
         ensures value { result ≡ fast_decay self.now }
         ensures most { result ≤ 2000 }
     {
@@ -96,7 +101,6 @@ impl Params {
 
     /// How far the slow leak falls in each band.
     pub(crate) fn slow_decay(&self) -> u16
-        requires { IsParams self.now }
         ensures value { result ≡ slow_decay self.now }
         ensures most { result ≤ 2000 }
     {
@@ -105,7 +109,6 @@ impl Params {
 
     /// The fast leak of the coupling channel before its first band.
     pub(crate) fn fast_start(&self) -> u16
-        requires { IsParams self.now }
         ensures value { result ≡ fast_start self.now }
         ensures most { result ≤ 4416 }
     {
@@ -114,7 +117,6 @@ impl Params {
 
     /// The slow leak of the coupling channel before its first band.
     pub(crate) fn slow_start(&self) -> u16
-        requires { IsParams self.now }
         ensures value { result ≡ slow_start self.now }
         ensures most { result ≤ 4416 }
     {
@@ -123,7 +125,6 @@ impl Params {
 
     /// The density below which the excitation grows.
     pub(crate) fn knee(&self) -> u16
-        requires { IsParams self.now }
         ensures value { result ≡ knee self.now }
         ensures most { result ≤ 2816 }
     {
@@ -132,7 +133,6 @@ impl Params {
 
     /// The floor under the masks.
     pub(crate) fn floor(&self) -> i32
-        requires { IsParams self.now }
         ensures value { result ≡ floor_of self.now }
         ensures bound { IsFloor result }
     {

@@ -1,7 +1,6 @@
 // Values of the standard's running form, by a program in another language, and of silence.
 ghost use Rattle.std.specs.Prelude.{◌≡◌, ◌≤◌, ◌<◌, ℕ, slice_index};
 ghost use Rattle.ac_base.specs.Shape.{IsSpan};
-ghost use Rattle.ac_alloc.specs.Codes.{IsParams};
 
 use crate::{Mask, Params, address, allocation_laws, baps};
 use ac_base::{Shape, Span, band_of};
@@ -89,9 +88,7 @@ fn bap_checksum(pointers: &[u8; 256], span: &Span) -> u32 {
 }
 
 /// The parameters of nine codes.
-fn params(rt: &impl Abort, codes: [u8; 9]) -> Params
-    ensures { IsParams result }
-{
+fn params(rt: &impl Abort, codes: [u8; 9]) -> Params {
     let [
         fscod,
         sdcycod,
