@@ -11,7 +11,9 @@ use Rattle.ac_alloc.specs.Codes.{fast_gain, slow_gain, fast_decay, slow_decay, f
 -- ---- low-frequency compensation (A/52 7.2.2.4): a before a band, whose density is b0 and whose next band's is b1
 unfoldable pub lowcomp : ℕ → ℕ → ℕ → ℕ → ℕ
 lowcomp a b0 b1 band =
-    if nat_lt band 20 then (if b0 + 256 == b1 then (if nat_lt band 7 then 384 else 320) else (if nat_lt b1 b0 then a - 64 else a)) else a - 128
+    if nat_lt band 20
+    then (if b0 + 256 == b1 then (if nat_lt band 7 then 384 else 320) else (if nat_lt b1 b0 then a - 64 else a))
+    else a - 128
 
 -- the left fold of lowcomp from 0 over the first n bands (A/52 7.2.2.4)
 abbrev pub lowcomp_to : (ℕ → ℕ) → ℕ → ℕ
@@ -46,6 +48,10 @@ leak P gain decay a b = greatest (λ j. pos (P j) -ℤ pos gain -ℤ pos (decay 
 abbrev pub leak_from : ℤ → (ℕ → ℕ) → ℕ → ℕ → ℕ → ℕ → ℤ
 leak_from start P gain decay f b = int_max (start -ℤ pos (decay * (b - f + 1))) (leak P gain decay f b)
 
+-- a bound that follows: how far leaks and excitations are from 0
+abbrev pub most_leak : ℕ
+most_leak = 4416
+
 -- ---- excitation (A/52 7.2.2.4)
 -- of a band that both leaks reach; the compensation counts up to band 21
 abbrev pub joined : ℤ → ℤ → ℕ → ℕ → ℤ
@@ -54,12 +60,20 @@ joined fast slow low b = if nat_le b 21 then int_max (fast -ℤ pos low) slow el
 -- of a channel or of LFE: below the leaks its own density, else by the leaks, which start one band before they begin
 abbrev pub excite : Params → Bool → (ℕ → ℕ) → ℕ → ℤ
 excite p lfe P b =
-    if nat_lt b (begin lfe P) then pos (P b) -ℤ pos (fast_gain p) -ℤ pos (low lfe P b) else joined (leak P (fast_gain p) (fast_decay p) (begin lfe P - 1) b) (leak P (slow_gain p) (slow_decay p) (begin lfe P - 1) b) (low lfe P b) b
+    if nat_lt b (begin lfe P)
+    then pos (P b) -ℤ pos (fast_gain p) -ℤ pos (low lfe P b)
+    else joined
+    (leak P (fast_gain p) (fast_decay p) (begin lfe P - 1) b)
+    (leak P (slow_gain p) (slow_decay p) (begin lfe P - 1) b)
+    (low lfe P b)
+    b
 
 -- of the coupling channel, whose first band is f
 abbrev pub excite_coupling : Params → ℕ → (ℕ → ℕ) → ℕ → ℤ
 excite_coupling p f P b =
-    int_max (leak_from (pos (fast_start p)) P (fast_gain p) (fast_decay p) f b) (leak_from (pos (slow_start p)) P (slow_gain p) (slow_decay p) f b)
+    int_max
+    (leak_from (pos (fast_start p)) P (fast_gain p) (fast_decay p) f b)
+    (leak_from (pos (slow_start p)) P (slow_gain p) (slow_decay p) f b)
 
 -- of a coded channel
 abbrev pub excite_by : Lead → Params → ℕ → (ℕ → ℕ) → ℕ → ℤ

@@ -11,6 +11,14 @@ AreExponents start end exps = (k : ℕ) → start ≤ k → k < end → slice_in
 abbrev pub psd : List ℕ → ℕ → ℕ
 psd exps k = 3072 - 128 * slice_index exps k
 
+-- bounds that follow, which the standard doesn't state: of a bin's density
+abbrev pub most_psd : ℕ
+most_psd = 3072
+
+-- and of a band's, of at most 24 bins, as each log-addition adds at most 64
+abbrev pub most_density : ℕ
+most_density = 3072 + 23 * 64
+
 -- the logarithm of a sum, from the logarithms of what is added (A/52 7.2.2.3, Table 7.14)
 unfoldable pub logadd : ℕ → ℕ → ℕ
 logadd a b = max a b + slice_index latab_list (min (abs_diff a b / 2) 255)

@@ -25,11 +25,18 @@ masked excite knee bndpsd threshold =
 -- the mask of band b (A/52 7.2.2.2 to 7.2.2.5)
 abbrev pub mask : Params → Span → List ℕ → ℕ → ℤ
 mask p s exps b =
-    masked (excite_by s.lead p (first_band s) (bndpsd s.start s.end exps) b) (knee p) (bndpsd s.start s.end exps b) (slice_index (hth_list p.fscod) b)
+    masked
+    (excite_by s.lead p (first_band s) (bndpsd s.start s.end exps) b)
+    (knee p)
+    (bndpsd s.start s.end exps b)
+    (slice_index (hth_list p.fscod) b)
 
 -- how great masks and floors are: bounds that follow, which the standard doesn't state
+abbrev pub most_level : ℕ
+most_level = 5120
+
 abbrev pub IsLevel : ℤ → Type 0
-IsLevel m = (pos 0 ≤ℤ m) × (unsigned_abs m ≤ 5120)
+IsLevel m = (pos 0 ≤ℤ m) × (unsigned_abs m ≤ most_level)
 
 abbrev pub IsFloor : ℤ → Type 0
 IsFloor f = (negsuc 2047 ≤ℤ f) × (f ≤ℤ pos 752)

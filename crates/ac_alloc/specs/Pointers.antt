@@ -16,6 +16,10 @@ abbrev pub natural : ℤ → ℕ
 natural (pos n) = n
 natural (negsuc n) = 0
 
+-- the greatest offset, as csnroffst has 6 bits and fsnroffst 4 (A/52 5.4.3.37, 5.4.3.40)
+abbrev pub most_offset : ℕ
+most_offset = 1023
+
 -- snroffset: 4 times 16 (csnroffst - 15) + fsnroffst, where t is 16 csnroffst + fsnroffst (A/52 7.2.2.1)
 abbrev pub snr_offset : ℕ → ℤ
 snr_offset t = pos (4 * t) -ℤ pos 960
@@ -80,4 +84,5 @@ BapsRise =
 -- the same for the masks of each coded channel
 abbrev pub BapRisesWithOffset : Type 0
 BapRisesWithOffset =
-    (p : Params) (s : Span) (exps : List ℕ) (k t u : ℕ) → IsSpan s → s.start ≤ k → k < s.end → t ≤ u → bap_at p s exps k t ≤ bap_at p s exps k u
+    (p : Params) (s : Span) (exps : List ℕ) (k t u : ℕ)
+    → IsSpan s → s.start ≤ k → k < s.end → t ≤ u → bap_at p s exps k t ≤ bap_at p s exps k u

@@ -1,9 +1,9 @@
 //! The power spectral density of bins, and of bands by log-addition (A/52 7.2.2.2, 7.2.2.3).
 ghost use Rattle.std.specs.Prelude.{◌≡◌, ◌<◌, ◌≤◌, ◌+◌, ◌*◌, ◌-◌, ℕ, slice_index};
-ghost use Rattle.ac_alloc.specs.Integration.{logadd, psd, folded, bndpsd, first_bin, last_bin, AreExponents};
-ghost use Rattle.ac_base.specs.Allocation.{masktab_list, bndtab_list};
+ghost use Rattle.ac_alloc.specs.Integration.{logadd, psd, folded, bndpsd, first_bin, last_bin, AreExponents, most_density, most_psd};
+ghost use Rattle.ac_base.specs.Allocation.{masktab_list, bndtab_list, bins, bands};
 
-use ac_base::{band_start, latab};
+use ac_base::{BANDS, band_start, latab};
 
 /// The logarithm of a sum, from the logarithms of what is added.
 #[inline]
@@ -23,7 +23,7 @@ fn log_add(a: u16, b: u16) -> u16
 pub fn psd(exp: u8) -> u16
     requires { exp ≤ 24 }
     ensures value { result ≡ 3072 - 128 * exp }
-    ensures bound { result ≤ 3072 }
+    ensures bound { result ≤ most_psd }
 {
     3072 - 128 * u16::from(exp)
 }
@@ -35,7 +35,7 @@ fn fold_bins(exps: &[u8; 256], first: usize, last: usize) -> u16
     requires inside { last < 256 }
     requires small { AreExponents first (last + 1) exps.now }
     ensures value { result ≡ folded (λ k. psd exps.now k) first (last - first) }
-    ensures bound { result ≤ 4544 }
+    ensures bound { result ≤ most_density }
 {
     let mut sum = psd(exps[first]);
     for k in first + 1..last + 1 {
@@ -46,12 +46,12 @@ fn fold_bins(exps: &[u8; 256], first: usize, last: usize) -> u16
 
 /// The density of a band, 0 where it has no bin of the span.
 fn band_psd(exps: &[u8; 256], start: u8, end: u8, b: u8) -> u16
-    requires band { b < 50 }
-    requires inside { end ≤ 253 }
+    requires band { b < bands }
+    requires inside { end ≤ bins }
     requires order { start < end }
     requires small { AreExponents start end exps.now }
     ensures value { result ≡ bndpsd start end exps.now b }
-    ensures bound { result ≤ 4544 }
+    ensures bound { result ≤ most_density }
 {
     let begin = band_start(b);
     let after = band_start(b + 1);
@@ -65,14 +65,14 @@ fn band_psd(exps: &[u8; 256], start: u8, end: u8, b: u8) -> u16
 }
 
 /// The density of each band, 0 where it has no bin of the span.
-pub(crate) fn integrate(exps: &[u8; 256], start: u8, end: u8, out: &mut [u16; 50])
+pub(crate) fn integrate(exps: &[u8; 256], start: u8, end: u8, out: &mut [u16; BANDS])
     requires order { start < end }
-    requires inside { end ≤ 253 }
+    requires inside { end ≤ bins }
     requires small { AreExponents start end exps.now }
     ensures values { (b : ℕ) → slice_index out.new b ≡ bndpsd start end exps.now b }
-    ensures bounds { (b : ℕ) → slice_index out.new b ≤ 4544 }
+    ensures bounds { (b : ℕ) → slice_index out.new b ≤ most_density }
 {
-    for b in 0..50u8 {
+    for b in 0..BANDS as u8 {
         out[b as usize] = band_psd(exps, start, end, b);
     }
 }

@@ -1,13 +1,16 @@
 //! Low-frequency compensation, and the band at which the leaks begin (A/52 7.2.2.4).
+ghost use Rattle.ac_alloc.specs.Integration.{most_density};
 ghost use Rattle.std.specs.Prelude.{◌≡◌, ◌<◌, ◌≤◌, ◌+◌, ◌*◌, ◌-◌, ℕ, length, slice_index, if◌then◌else◌, true, false};
 ghost use Rattle.ac_alloc.specs.Excitation.{lowcomp, low, lowcomp_to, begin};
+
+use ac_base::BANDS;
 
 /// The compensation of a band by that of the band before, its density and the next band's.
 #[inline]
 #[tactic(auto, unfolding(crate::specs::Excitation::lowcomp))]
 fn compensate(low: u16, here: u16, next: u16, band: usize) -> u16
     requires low { low ≤ 384 }
-    requires here { here ≤ 4544 }
+    requires here { here ≤ most_density }
     ensures value { result ≡ lowcomp low here next band }
     ensures bound { result ≤ 384 }
 {
@@ -26,9 +29,9 @@ fn compensate(low: u16, here: u16, next: u16, band: usize) -> u16
 
 /// The compensation of bands 0 to 21, of LFE 0 to 6; LFE's band 6 keeps that of band 5. `bndpsd` has the channel's bands
 /// alone: of LFE, seven.
-pub(crate) fn lowcomps(bndpsd: &[u16], lfe: bool, out: &mut [u16; 50])
+pub(crate) fn lowcomps(bndpsd: &[u16], lfe: bool, out: &mut [u16; BANDS])
     requires all { (if lfe then 7 else 23) ≤ length bndpsd.now }
-    requires bounds { (b : ℕ) → b < (if lfe then 7 else 23) → slice_index bndpsd.now b ≤ 4544 }
+    requires bounds { (b : ℕ) → b < (if lfe then 7 else 23) → slice_index bndpsd.now b ≤ most_density }
     ensures values { (b : ℕ) → b < (if lfe then 7 else 22) → slice_index out.new b ≡ low lfe (λ j. slice_index bndpsd.now j) b }
     ensures bounds { (b : ℕ) → b < (if lfe then 7 else 22) → slice_index out.new b ≤ 384 }
 {
@@ -41,10 +44,10 @@ pub(crate) fn lowcomps(bndpsd: &[u16], lfe: bool, out: &mut [u16; 50])
 }
 
 /// The compensation of the first bands; gives that of the last.
-fn lowcomp_run(bndpsd: &[u16], bands: usize, out: &mut [u16; 50]) -> u16
+fn lowcomp_run(bndpsd: &[u16], bands: usize, out: &mut [u16; BANDS]) -> u16
     requires few { bands < 50 }
     requires all { bands < length bndpsd.now }
-    requires bounds { (b : ℕ) → b ≤ bands → slice_index bndpsd.now b ≤ 4544 }
+    requires bounds { (b : ℕ) → b ≤ bands → slice_index bndpsd.now b ≤ most_density }
     ensures values { (b : ℕ) → b < bands → slice_index out.new b ≡ lowcomp_to (λ j. slice_index bndpsd.now j) (b + 1) }
     ensures bounds { (b : ℕ) → b < bands → slice_index out.new b ≤ 384 }
     ensures last { result ≡ lowcomp_to (λ j. slice_index bndpsd.now j) bands }

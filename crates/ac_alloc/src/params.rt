@@ -52,6 +52,7 @@ static KNEES: [u16; 4] = [0, 0x700, 0x900, 0xb00];
 static FLOORS: [i32; 8] = [0x2f0, 0x2b0, 0x270, 0x230, 0x1f0, 0x170, 0x0f0, -2048];
 
 impl Params {
+    ghost use Rattle.ac_alloc.specs.Excitation.{most_leak};
     ghost use Rattle.ac_alloc.specs.Masking.{IsFloor};
     ghost use Rattle.ac_alloc.specs.Codes.{fast_gain, slow_gain, fast_decay, slow_decay, fast_start, slow_start, knee, floor_of, encoder_params};
 
@@ -110,7 +111,7 @@ impl Params {
     /// The fast leak of the coupling channel before its first band.
     pub(crate) fn fast_start(&self) -> u16
         ensures value { result ≡ fast_start self.now }
-        ensures most { result ≤ 4416 }
+        ensures most { result ≤ most_leak }
     {
         256 * u16::from(self.cplfleak) + 768
     }
@@ -118,7 +119,7 @@ impl Params {
     /// The slow leak of the coupling channel before its first band.
     pub(crate) fn slow_start(&self) -> u16
         ensures value { result ≡ slow_start self.now }
-        ensures most { result ≤ 4416 }
+        ensures most { result ≤ most_leak }
     {
         256 * u16::from(self.cplsleak) + 768
     }
