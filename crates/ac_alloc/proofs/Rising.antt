@@ -92,11 +92,11 @@ fast_gain_least p = omega arith
 
 slow_gain_least : (p : Params) → 128 ≤ slow_gain p
 slow_gain_least p =
-    leb-true _ _ (all_below-at 4 (λ k. nat_le 128 (slice_index slow_gains k)) refl p.sgaincod (omega (arith, p.gain)))
+    leb-true _ _ (all_below-at 4 (λ k. nat_le 128 (slice_index slow_gains k)) refl p.sgaincod (omega (arith, p.gain_code)))
 
 knee_most : (p : Params) → knee p ≤ 2816
 knee_most p =
-    leb-true _ _ (all_below-at 4 (λ k. nat_le (slice_index knees k) 2816) refl p.dbpbcod (omega (arith, p.below)))
+    leb-true _ _ (all_below-at 4 (λ k. nat_le (slice_index knees k) 2816) refl p.dbpbcod (omega (arith, p.knee_code)))
 
 excite_bound : (p : Params) → (lfe : Bool) (P : ℕ → ℕ) (b : ℕ) → ((j : ℕ) → P j ≤ 4544) → excite p lfe P b ≤ℤ pos 4416
 excite_bound p lfe P b h =
@@ -115,8 +115,8 @@ coupling_bound : (p : Params) → (a : ℕ) (P : ℕ → ℕ) (b : ℕ) → ((j 
 coupling_bound p a P b h =
     let fb = leak_bound P (fast_gain p) (fast_decay p) a b h (fast_gain_least p) in
     let sb = leak_bound P (slow_gain p) (slow_decay p) a b h (slow_gain_least p) in
-    let f0 = start_bound (fast_start p) (fast_decay p * (b - a + 1)) (omega (arith, p.fast_leak)) in
-    let s0 = start_bound (slow_start p) (slow_decay p * (b - a + 1)) (omega (arith, p.slow_leak)) in
+    let f0 = start_bound (fast_start p) (fast_decay p * (b - a + 1)) (omega (arith, p.fast_leak_code)) in
+    let s0 = start_bound (slow_start p) (slow_decay p * (b - a + 1)) (omega (arith, p.slow_leak_code)) in
     max_bound (leak_from (pos (fast_start p)) P (fast_gain p) (fast_decay p) a b) (leak_from (pos (slow_start p)) P (slow_gain p) (slow_decay p) a b) (pos 4416) (max_bound (pos (fast_start p) -ℤ pos (fast_decay p * (b - a + 1))) (leak P (fast_gain p) (fast_decay p) a b) (pos 4416) f0 fb) (max_bound (pos (slow_start p) -ℤ pos (slow_decay p * (b - a + 1))) (leak P (slow_gain p) (slow_decay p) a b) (pos 4416) s0 sb)
 
 by_bound : (l : Lead) (p : Params) → (a : ℕ) (P : ℕ → ℕ) (b : ℕ) → ((j : ℕ) → P j ≤ 4544) → excite_by l p a P b ≤ℤ pos 4416
@@ -155,7 +155,7 @@ masks_are_levels p s exps b span below =
     masked_level (excite_by s.lead p (first_band s) P b) (knee p) (P b) (slice_index (hth_list p.fscod) b) e (knee_most p) (hearing_small p.fscod b below)
 
 pub floors_are_floors : FloorsAreFloors
-floors_are_floors p = floor_in p.floorcod (omega (arith, p.least))
+floors_are_floors p = floor_in p.floorcod (omega (arith, p.floor_code))
 
 pub bap_rises : BapRisesWithOffset
 bap_rises p s exps k t u span l m h =

@@ -16,15 +16,15 @@ encoder_params fscod rate = record {
   fgaincod = sent_fgaincod;
   cplfleak = sent_cplfleak;
   cplsleak = sent_cplsleak;
-  rate = rate;
-  slow = le-add_right sent_sdcycod 1;
-  fast = le-add_right sent_fdcycod 2;
-  gain = le-add_right sent_sgaincod 2;
-  below = le-add_right sent_dbpbcod 0;
-  least = le-add_right sent_floorcod 0;
-  own_gain = le-add_right sent_fgaincod 3;
-  fast_leak = le-add_right sent_cplfleak 7;
-  slow_leak = le-add_right sent_cplsleak 7;
+  sampling = rate;
+  slow_code = le-add_right sent_sdcycod 1;
+  fast_code = le-add_right sent_fdcycod 2;
+  gain_code = le-add_right sent_sgaincod 2;
+  knee_code = le-add_right sent_dbpbcod 0;
+  floor_code = le-add_right sent_floorcod 0;
+  fast_gain_code = le-add_right sent_fgaincod 3;
+  fast_leak_code = le-add_right sent_cplfleak 7;
+  slow_leak_code = le-add_right sent_cplsleak 7;
 }
 
 -- by sdcycod (A/52 Table 7.6)

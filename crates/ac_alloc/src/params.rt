@@ -25,15 +25,15 @@ pub struct Params {
     pub cplfleak: u8,
     /// The slow leak of the coupling channel before its first band.
     pub cplsleak: u8,
-    pub ghost rate: { fscod ≤ 2 },
-    pub ghost slow: { sdcycod ≤ 3 },
-    pub ghost fast: { fdcycod ≤ 3 },
-    pub ghost gain: { sgaincod ≤ 3 },
-    pub ghost below: { dbpbcod ≤ 3 },
-    pub ghost least: { floorcod ≤ 7 },
-    pub ghost own_gain: { fgaincod ≤ 7 },
-    pub ghost fast_leak: { cplfleak ≤ 7 },
-    pub ghost slow_leak: { cplsleak ≤ 7 },
+    pub ghost sampling: { fscod ≤ 2 },
+    pub ghost slow_code: { sdcycod ≤ 3 },
+    pub ghost fast_code: { fdcycod ≤ 3 },
+    pub ghost gain_code: { sgaincod ≤ 3 },
+    pub ghost knee_code: { dbpbcod ≤ 3 },
+    pub ghost floor_code: { floorcod ≤ 7 },
+    pub ghost fast_gain_code: { fgaincod ≤ 7 },
+    pub ghost fast_leak_code: { cplfleak ≤ 7 },
+    pub ghost slow_leak_code: { cplsleak ≤ 7 },
 }
 
 /// By sdcycod (A/52 Table 7.6).

@@ -2,7 +2,7 @@
 ghost use Rattle.std.specs.Prelude.{◌≡◌, ◌≤◌, ◌<◌, ℕ, slice_index};
 ghost use Rattle.ac_base.specs.Shape.{IsSpan};
 
-use crate::{Mask, Params, address, allocation_laws, baps};
+use crate::{Mask, Params, address, allocation_laws, bap_of, baps, key_laws, level, psd};
 use ac_base::{Shape, Span, band_of};
 use std::process::Abort;
 
@@ -385,6 +385,7 @@ fn masks_and_baps_of_the_running_form(rt: HostRuntime) {
         assert!(rt; out[253] == 9);
     }
     allocation_laws();
+    key_laws();
 }
 
 // As the encoder's frames carry them in block 0.
@@ -425,6 +426,8 @@ fn lfe_baps(rt: HostRuntime) {
             assert_eq!(rt; out[k], want, "bin {k} at {t}");
         }
         assert_eq!(rt; out[7], 9);
+        let at_level = bap_of(level(2432, -2048, t), psd(0));
+        assert_eq!(rt; at_level, want, "by the level at {t}");
     }
 }
 
