@@ -4,7 +4,8 @@ use Rattle.std.specs.Prelude.{ℕ, ◌+◌, ◌*◌, ◌≤◌, ℤ, pos, negsuc
 use Rattle.ac_base.specs.Profile.{sent_sdcycod, sent_fdcycod, sent_sgaincod, sent_dbpbcod, sent_floorcod, sent_fgaincod, sent_cplfleak, sent_cplsleak}
 use Rattle.ac_alloc.specs.declared.params.Params.{Params}
 
--- those that the encoder sends at a rate of sampling: this project's profile
+-- those that the encoder sends at a rate of sampling: this project's profile. The last nine say that each is within its field: so many below
+-- the greatest code
 abbrev pub encoder_params : (fscod : ℕ) → fscod ≤ 2 → Params
 encoder_params fscod rate = record {
   fscod = fscod;

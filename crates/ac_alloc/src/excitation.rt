@@ -73,9 +73,9 @@ fn excite_channel(p: &Params, bndpsd: &[u16], lfe: bool, out: &mut [i32; BANDS])
     requires few { length bndpsd.now ≤ (if lfe then 7 else bands) }
     requires some { (if lfe then 7 else 31) ≤ length bndpsd.now }
     requires bounds { (b : ℕ) → slice_index bndpsd.now b ≤ most_density }
-    ensures values { (b : ℕ) → b < length bndpsd.now
+    ensures value { (b : ℕ) → b < length bndpsd.now
         → slice_index_or out.new b (pos 0) ≡ excite p.now lfe (λ j. slice_index bndpsd.now j) b }
-    ensures bounds { (b : ℕ) → b < length bndpsd.now → unsigned_abs (slice_index_or out.new b (pos 0)) ≤ most_leak }
+    ensures bound { (b : ℕ) → b < length bndpsd.now → unsigned_abs (slice_index_or out.new b (pos 0)) ≤ most_leak }
 {
     let mut low = [0u16; BANDS];
     lowcomps(bndpsd, lfe, &mut low);
@@ -118,9 +118,9 @@ fn excite_coupling_channel(p: &Params, bndpsd: &[u16], from: usize, out: &mut [i
     requires few { length bndpsd.now ≤ bands }
     requires order { from ≤ length bndpsd.now }
     requires bounds { (b : ℕ) → slice_index bndpsd.now b ≤ most_density }
-    ensures values { (b : ℕ) → from ≤ b → b < length bndpsd.now
+    ensures value { (b : ℕ) → from ≤ b → b < length bndpsd.now
         → slice_index_or out.new b (pos 0) ≡ excite_coupling p.now from (λ j. slice_index bndpsd.now j) b }
-    ensures bounds { (b : ℕ) → from ≤ b → b < length bndpsd.now → unsigned_abs (slice_index_or out.new b (pos 0)) ≤ most_leak }
+    ensures bound { (b : ℕ) → from ≤ b → b < length bndpsd.now → unsigned_abs (slice_index_or out.new b (pos 0)) ≤ most_leak }
 {
     let mut fast = [0i32; BANDS];
     leaks(
@@ -156,9 +156,9 @@ pub(crate) fn excite_span(
 )
     requires bands { AreBands lead from (length bndpsd.now) }
     requires bounds { (b : ℕ) → slice_index bndpsd.now b ≤ most_density }
-    ensures values { (b : ℕ) → from ≤ b → b < length bndpsd.now
+    ensures value { (b : ℕ) → from ≤ b → b < length bndpsd.now
         → slice_index_or out.new b (pos 0) ≡ excite_by lead p.now from (λ j. slice_index bndpsd.now j) b }
-    ensures bounds { (b : ℕ) → from ≤ b → b < length bndpsd.now → unsigned_abs (slice_index_or out.new b (pos 0)) ≤ most_leak }
+    ensures bound { (b : ℕ) → from ≤ b → b < length bndpsd.now → unsigned_abs (slice_index_or out.new b (pos 0)) ≤ most_leak }
 {
     match lead {
         Lead::Free => excite_channel(p, bndpsd, false, out),

@@ -69,8 +69,8 @@ pub(crate) fn integrate(exps: &[u8; 256], start: u8, end: u8, out: &mut [u16; BA
     requires order { start < end }
     requires inside { end ≤ bins }
     requires small { AreExponents start end exps.now }
-    ensures values { (b : ℕ) → slice_index out.new b ≡ bndpsd start end exps.now b }
-    ensures bounds { (b : ℕ) → slice_index out.new b ≤ most_density }
+    ensures value { (b : ℕ) → slice_index out.new b ≡ bndpsd start end exps.now b }
+    ensures bound { (b : ℕ) → slice_index out.new b ≤ most_density }
 {
     for b in 0..BANDS as u8 {
         out[b as usize] = band_psd(exps, start, end, b);

@@ -37,9 +37,9 @@ pub(crate) fn leaks(
     requires bndpsd { (b : ℕ) → from ≤ b → b < length bndpsd.now → slice_index bndpsd.now b ≤ most_density }
     requires least { 128 ≤ gain }
     requires most { gain ≤ 2000 }
-    ensures values { (b : ℕ) → from ≤ b → b < length bndpsd.now
+    ensures value { (b : ℕ) → from ≤ b → b < length bndpsd.now
         → slice_index_or out.new b (pos 0) ≡ leak_from start (λ j. slice_index bndpsd.now j) gain decay from b }
-    ensures bounds { (b : ℕ) → from ≤ b → b < length bndpsd.now → unsigned_abs (slice_index_or out.new b (pos 0)) ≤ most_leak }
+    ensures bound { (b : ℕ) → from ≤ b → b < length bndpsd.now → unsigned_abs (slice_index_or out.new b (pos 0)) ≤ most_leak }
 {
     let mut leak = start;
     for b in from..bndpsd.len() {

@@ -32,8 +32,8 @@ fn compensate(low: u16, here: u16, next: u16, band: usize) -> u16
 pub(crate) fn lowcomps(bndpsd: &[u16], lfe: bool, out: &mut [u16; BANDS])
     requires all { (if lfe then 7 else 23) ≤ length bndpsd.now }
     requires bounds { (b : ℕ) → b < (if lfe then 7 else 23) → slice_index bndpsd.now b ≤ most_density }
-    ensures values { (b : ℕ) → b < (if lfe then 7 else 22) → slice_index out.new b ≡ low lfe (λ j. slice_index bndpsd.now j) b }
-    ensures bounds { (b : ℕ) → b < (if lfe then 7 else 22) → slice_index out.new b ≤ 384 }
+    ensures value { (b : ℕ) → b < (if lfe then 7 else 22) → slice_index out.new b ≡ low lfe (λ j. slice_index bndpsd.now j) b }
+    ensures bound { (b : ℕ) → b < (if lfe then 7 else 22) → slice_index out.new b ≤ 384 }
 {
     if lfe {
         let last = lowcomp_run(bndpsd, 6, out);

@@ -30,7 +30,7 @@ impl Mask {
             → slice_index_or result.m b (pos 0) ≡ mask p.now span.now exps.now b }
         ensures rest { (b : ℕ) → (b < first_band span.now) ⊎ (last_band span.now < b) → slice_index_or result.m b (pos 0) ≡ pos 0 }
         ensures floor { result.floor ≡ floor_of p.now }
-        ensures bounds { IsMask result }
+        ensures bound { IsMask result }
     {
         let mut bndpsd = [0u16; BANDS];
         integrate(exps, span.start, span.end, &mut bndpsd);
@@ -78,7 +78,7 @@ fn masks(
     requires order { from ≤ to }
     requires excite { (b : ℕ) → from ≤ b → b < to → unsigned_abs (slice_index_or excite.now b (pos 0)) ≤ most_leak }
     requires levels { (b : ℕ) → IsLevel (slice_index_or out.old b (pos 0)) }
-    ensures values { (b : ℕ) → from ≤ b → b < to → slice_index_or out.new b (pos 0)
+    ensures value { (b : ℕ) → from ≤ b → b < to → slice_index_or out.new b (pos 0)
         ≡ masked (slice_index_or excite.now b (pos 0)) (knee p.now) (slice_index bndpsd.now b) (slice_index (hth_list p.now.fscod) b) }
     ensures rest { (b : ℕ) → (b < from) ⊎ (to ≤ b) → slice_index_or out.new b (pos 0) ≡ slice_index_or out.old b (pos 0) }
     ensures levels { (b : ℕ) → IsLevel (slice_index_or out.new b (pos 0)) }

@@ -58,7 +58,7 @@ fn raised_level(mask: i32, floor: i32, t: u16) -> u16
 /// What stands of the masks of all bands at an offset, likewise.
 fn raised_levels(mask: &Mask, t: u16, out: &mut [u16; BANDS])
     requires { t ≤ most_offset }
-    ensures values { (b : ℕ) → b < bands
+    ensures value { (b : ℕ) → b < bands
         → pos (slice_index out.new b) ≡ kept (level (slice_index_or mask.now.m b (pos 0)) mask.now.floor t) +ℤ pos 2048 }
 {
     let floor = mask.floor;

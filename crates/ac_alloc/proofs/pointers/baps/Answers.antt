@@ -17,7 +17,7 @@ returns-else-silent-clause-bins c =
     let small = bands_small k (omega arith) in
     let m = slice_index_or c.args.mask.now.m b (pos 0) in
     let heard : c.args.silent ≡ false = cc in
-    let v = c.raised_levels.ensures.values b (omega arith) in
+    let v = c.raised_levels.ensures.value b (omega arith) in
     c.allocate_bins.ensures.bins k p q (level m c.args.mask.now.floor c.args.t) v ∙ sym (ap (λ (s : Bool). if s then 0 else bap m c.args.mask.now.floor (psd c.args.exps.now k) c.args.t) heard)
 
 pub returns-then-silent-clause-value : goal.returns-then-silent-clause-value
@@ -34,7 +34,7 @@ returns-else-silent-clause-value c =
     let small = bands_small k (omega (arith, inside.1)) in
     let m = slice_index_or c.args.mask.now.m b (pos 0) in
     let heard : c.args.silent ≡ false = cc in
-    let v = c.raised_levels.ensures.values b (omega arith) in
+    let v = c.raised_levels.ensures.value b (omega arith) in
     c.allocate_bins.ensures.bins k inside.0 inside.1 (level m c.args.mask.now.floor c.args.t) v
     ∙ under_mask p c.args.span.now c.args.exps.now c.args.mask.now k c.args.t c.requires.span of inside
     ∙ sym (ap (λ (s : Bool). if s then 0 else bap_at p c.args.span.now c.args.exps.now k c.args.t) heard)

@@ -23,7 +23,7 @@ excite_span-requires-clause-bands c =
 
 pub excite_span-requires-clause-bounds : goal.excite_span-requires-clause-bounds
 excite_span-requires-clause-bounds c =
-    bndpsd_alone_bound (c.band_of.result + 1) c.integrate.new.out c.integrate.ensures.bounds
+    bndpsd_alone_bound (c.band_of.result + 1) c.integrate.new.out c.integrate.ensures.bound
 
 pub masks-requires-clause-levels : goal.masks-requires-clause-levels
 masks-requires-clause-levels c =
@@ -39,17 +39,17 @@ returns-clause-masks c =
     let to = c.band_of.result + 1 in
     let P = λ (j : ℕ). slice_index c.integrate.new.out j in
     let R = λ (j : ℕ). slice_index (take to c.integrate.new.out) j in
-    let same : P ≡ Q = λ i j. c.integrate.ensures.values j i in
+    let same : P ≡ Q = λ i j. c.integrate.ensures.value j i in
     let et : to ≡ slice_index masktab_list (s.end - 1) + 1 = ap (λ x. x + 1) c.band_of.ensures.value in
-    let alone = bndpsd_alone s.start s.end to c.args.exps.now c.integrate.new.out (omega (arith, span_some s c.requires.span)) (span_end s c.requires.span) et c.integrate.ensures.values in
+    let alone = bndpsd_alone s.start s.end to c.args.exps.now c.integrate.new.out (omega (arith, span_some s c.requires.span)) (span_end s c.requires.span) et c.integrate.ensures.value in
     let there : R ≡ Q = λ i j. alone j i in
     let small = bands_small (s.end - 1) (omega (arith, span_some s c.requires.span, span_end s c.requires.span)) in
     let long : length (take to c.integrate.new.out) ≡ to = length-take-le to c.integrate.new.out (omega arith) in
     let lo : from ≤ b = omega (arith, c.band_of-from.ensures.value) in
     let hi : b < c.band_of.result + 1 = omega (arith, c.band_of.ensures.value) in
     let h = slice_index (hth_list p.fscod) b in
-    let e = c.excite_span.ensures.values b lo (omega (arith, hi, long)) ∙ ap (λ (F : ℕ → ℕ). excite_by s.lead p from F b) there ∙ ap (λ f. excite_by s.lead p f Q b) c.band_of-from.ensures.value in
-    c.masks.ensures.values b lo hi ∙ ap (λ x. masked x (knee p) (P b) h) e ∙ ap (λ (F : ℕ → ℕ). masked (excite_by s.lead p (first_band s) Q b) (knee p) (F b) h) same
+    let e = c.excite_span.ensures.value b lo (omega (arith, hi, long)) ∙ ap (λ (F : ℕ → ℕ). excite_by s.lead p from F b) there ∙ ap (λ f. excite_by s.lead p f Q b) c.band_of-from.ensures.value in
+    c.masks.ensures.value b lo hi ∙ ap (λ x. masked x (knee p) (P b) h) e ∙ ap (λ (F : ℕ → ℕ). masked (excite_by s.lead p (first_band s) Q b) (knee p) (F b) h) same
 
 pub masks-requires-clause-order : goal.masks-requires-clause-order
 masks-requires-clause-order c =
