@@ -1,0 +1,5 @@
+pub mod Lengths
+pub mod Loops
+pub mod Reading
+pub mod Sound
+pub mod Spelling
