@@ -425,3 +425,28 @@ pub series_sound : {A : Type 0} (n : ℕ) (so_far : List A) (c : List A → Code
 unfolding series
 series_sound zero so_far c s = absent_sound []
 series_sound (suc n) so_far c s = cons_then_sound (c so_far) (λ a. series n (so_far ++ a ∷ []) c) (s so_far) (λ a. series_sound n (so_far ++ a ∷ []) c s)
+
+pub part_refused : {X Y : Type 0} (part : X → Y) (c : Codec X) → Sound c → (r : Result Y Refused) (old new : List Bool) → GivesPart part r new (c.read old) → IfErr r (λ e. c.Refuses old e new)
+part_refused part c s (Ok y) old new h = tt
+part_refused part c s (Err e) old new h = s.refused old e new h
+
+pub part_refuses : {X Y : Type 0} (part : X → Y) (c : Codec X) → Sound c → (r : Result Y Refused) (old new : List Bool) → GivesPart part r new (c.read old) → (e : Refused) (at : List Bool) → c.Refuses old e at → (r ≡ Err e) × (new ≡ at)
+part_refuses {X} {Y} part c s (Ok y) old new h e at k =
+    let g : ok_of (h.0, new) ≡ err_of (e, at) = sym h.2 ∙ s.refuses old e at k in
+    absurd cc
+part_refuses {X} {Y} part c s (Err d) old new h e at k =
+    let g : err_of {A = X} (d, new) ≡ err_of (e, at) = sym h ∙ s.refuses old e at k in
+    let p = err_pair {A = X} d e new at g in
+    let err : Refused → Result Y Refused = λ x. Err x in
+    (ap err p.0, p.1)
+
+-- where a call answers the first of two parts
+pub first_found : {A B : Type 0} (c : Codec (A × B)) → Sound c → (r : Result A Refused) (old new : List Bool) → GivesPart (λ x. x.0) r new (c.read old) → IfOk r (λ a. (b : B) × c.Lawful (a, b) × (old ≡ c.spell (a, b) ++ new))
+first_found {A} {B} c s (Ok a) old new h =
+    let f = s.found old h.0 new h.2 in
+    let goal : A → Type 0 = λ x. (b : B) × c.Lawful (x, b) × (old ≡ c.spell (x, b) ++ new) in
+    subst goal h.1 (h.0.1, f.0, f.1)
+first_found c s (Err e) old new h = tt
+
+pub first_only : {A B : Type 0} (c : Codec (A × B)) → Sound c → (r : Result A Refused) (old new : List Bool) → GivesPart (λ x. x.0) r new (c.read old) → (a : A) (b : B) (rest : List Bool) → c.Lawful (a, b) → old ≡ c.spell (a, b) ++ rest → (r ≡ Ok a) × (new ≡ rest)
+first_only c s r old new h a b rest k e = part_only (λ x. x.0) c s r old new h (a, b) rest k e

@@ -3,8 +3,12 @@
 #![tactic(auto)]
 
 mod block;
+mod channels;
 mod groups;
 mod head;
+mod head_groups;
+mod head_reading;
 
 pub use block::Block;
 pub use head::Head;
+pub use head_reading::read_head;

@@ -1,0 +1,30 @@
+-- The fields of a head are sound.
+use Rattle.std.proofs.Common.{◌≡◌, refl, Bool, List}
+use Rattle.ac_codec.specs.Codec.{Codec, pair, free}
+use Rattle.ac_codec.proofs.Sound.{Sound, field_sound, test_sound, pair_sound, shaped_sound, given_sound, free_sound}
+use Rattle.ac_rows.specs.declared.head.Head.{Head}
+use Rattle.ac_rows.specs.HeadRows.{layout_rows, layout, layout_to, layout_from, service_rows, service, service_to, service_from, head, head_to, head_from, whole_head, addbsi_bits}
+
+layout_rows_sound : Sound layout_rows
+unfolding layout_rows
+layout_rows_sound = search (pair_sound, field_sound, test_sound, given_sound) depth 60
+
+pub layout_sound : Sound layout
+unfolding layout
+layout_sound = shaped_sound layout_to layout_from layout_rows (λ _. refl) (λ _. refl) layout_rows_sound
+
+service_rows_sound : Sound service_rows
+unfolding service_rows
+service_rows_sound = search (pair_sound, field_sound, test_sound, given_sound) depth 60
+
+pub service_sound : Sound service
+unfolding service
+service_sound = shaped_sound service_to service_from service_rows (λ _. refl) (λ _. refl) service_rows_sound
+
+pub head_sound : Sound head
+unfolding head
+head_sound = shaped_sound head_to head_from (pair layout (λ _. service)) (λ _. refl) (λ _. refl) (pair_sound layout (λ _. service) layout_sound (λ _. service_sound))
+
+pub whole_head_sound : Sound whole_head
+unfolding whole_head
+whole_head_sound = pair_sound head (λ h. free (addbsi_bits h)) head_sound (λ h. free_sound (addbsi_bits h))
