@@ -3,7 +3,7 @@ use Rattle.std.proofs.Common.{◌≡◌, refl, Bool, List}
 use Rattle.ac_codec.specs.Codec.{Codec, pair, free}
 use Rattle.ac_codec.proofs.Sound.{Sound, field_sound, test_sound, pair_sound, shaped_sound, given_sound, free_sound}
 use Rattle.ac_rows.specs.declared.head.Head.{Head}
-use Rattle.ac_rows.specs.HeadRows.{layout_rows, layout, layout_to, layout_from, service_rows, service, service_to, service_from, head, head_to, head_from, whole_head, addbsi_bits}
+use Rattle.ac_rows.specs.HeadRows.{layout_rows, layout, layout_to, layout_from, service_rows, service, service_to, service_from, head_fields, head_to, head_from, whole_head, addbsi_bits}
 
 layout_rows_sound : Sound layout_rows
 unfolding layout_rows
@@ -21,10 +21,10 @@ pub service_sound : Sound service
 unfolding service
 service_sound = shaped_sound service_to service_from service_rows (λ _. refl) (λ _. refl) service_rows_sound
 
-pub head_sound : Sound head
-unfolding head
+pub head_sound : Sound head_fields
+unfolding head_fields
 head_sound = shaped_sound head_to head_from (pair layout (λ _. service)) (λ _. refl) (λ _. refl) (pair_sound layout (λ _. service) layout_sound (λ _. service_sound))
 
 pub whole_head_sound : Sound whole_head
 unfolding whole_head
-whole_head_sound = pair_sound head (λ h. free (addbsi_bits h)) head_sound (λ h. free_sound (addbsi_bits h))
+whole_head_sound = pair_sound head_fields (λ h. free (addbsi_bits h)) head_sound (λ h. free_sound (addbsi_bits h))

@@ -106,8 +106,8 @@ abbrev pub head_from : Head → Layout × Service
 head_from h = (layout_of h, service_of h)
 
 -- all fields of a head
-unfoldable pub head : Codec Head
-head = shaped head_to head_from (pair layout (λ _. service))
+unfoldable pub head_fields : Codec Head
+head_fields = shaped head_to head_from (pair layout (λ _. service))
 
 -- addbsil says one less than the bytes of addbsi (A/52 5.4.2.30, 5.4.2.31)
 abbrev pub extra_bits : Option ℕ → ℕ
@@ -119,4 +119,4 @@ addbsi_bits h = extra_bits h.addbsil
 
 -- a head and the bits of addbsi, which are free
 unfoldable pub whole_head : Codec (Head × List Bool)
-whole_head = pair head (λ h. free (addbsi_bits h))
+whole_head = pair head_fields (λ h. free (addbsi_bits h))

@@ -3,7 +3,7 @@ ghost use Rattle.std.specs.Prelude.{◌≡◌, ◌≤◌, ◌++◌, List, Bool, 
 ghost use Rattle.ac_codec.specs.Codec.{Codec, Gives, GivesPart, field};
 ghost use Rattle.ac_codec.specs.declared.refused.Refused.{Refused};
 ghost use Rattle.ac_rows.specs.declared.head.Head.{Head};
-ghost use Rattle.ac_rows.specs.HeadRows.{sync_only, eight_only, no_dual, layout, service, head, whole_head, addbsi_bits, extra_bits};
+ghost use Rattle.ac_rows.specs.HeadRows.{sync_only, eight_only, no_dual, layout, service, head_fields, whole_head, addbsi_bits, extra_bits};
 
 use crate::channels::{center, stereo, surround};
 use crate::head::Head;
@@ -127,9 +127,9 @@ fn read_service(source: &mut BitSource) -> Result<Service, Refused>
     })
 }
 
-#[tactic(auto, unfolding(crate::specs::HeadRows::head, ac_codec::specs::Codec::pair, ac_codec::specs::Codec::shaped))]
+#[tactic(auto, unfolding(crate::specs::HeadRows::head_fields, ac_codec::specs::Codec::pair, ac_codec::specs::Codec::shaped))]
 fn read_fields(source: &mut BitSource) -> Result<Head, Refused>
-    ensures { Gives result source.new (head.read source.old) }
+    ensures { Gives result source.new (head_fields.read source.old) }
 {
     let a = read_layout(source)?;
     let b = read_service(source)?;

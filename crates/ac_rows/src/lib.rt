@@ -8,7 +8,9 @@ mod groups;
 mod head;
 mod head_groups;
 mod head_reading;
+mod head_writing;
 
 pub use block::Block;
 pub use head::Head;
 pub use head_reading::read_head;
+pub use head_writing::write_head;
