@@ -1,5 +1,5 @@
 -- What is read is spelled so, what is spelled so is read, and what is refused is refused there: for each kind of row, and so for all that are made of them.
-use Rattle.std.proofs.Common.{◌≡◌, ℕ, zero, suc, ◌<◌, ◌≤◌, ◌^◌, ◌⊎◌, inl, inr, Bool, true, false, List, [], ◌∷◌, ◌++◌, length, take, drop, Option, Some, None, Result, Ok, Err, refl, ap, sym, subst, ◌∙◌, arith, length-append, append_assoc}
+use Rattle.std.proofs.Common.{◌≡◌, ℕ, zero, suc, ◌+◌, ◌<◌, ◌≤◌, ◌^◌, ◌⊎◌, inl, inr, Bool, true, false, List, [], ◌∷◌, ◌++◌, length, take, drop, Option, Some, None, Result, Ok, Err, refl, ap, sym, subst, ◌∙◌, arith, length-append, append_assoc}
 use Rattle.std.proofs.lemmas.Bool.{le-ltb, lt-ltb, cases_lt}
 use Rattle.std.proofs.lemmas.List.{take_at, drop_at, take-append-drop, length-take-le}
 use Rattle.ac_bits.specs.Bits.{bits, num}
@@ -7,7 +7,7 @@ use Rattle.ac_bits.proofs.Laws.{bits-num, num_below}
 use Rattle.ac_codec.specs.declared.refused.Refused.{Refused}
 use Rattle.ac_codec.specs.declared.refused.Refused.TheVariants.{OutOfBits}
 use Rattle.std.specs.Prelude.{IfOk, IfErr}
-use Rattle.ac_codec.specs.Codec.{Codec, Outcome, Gives, ◌>>=◌, field, field_read, checked, test, test_read, tested, absent, pair, shaped, fitted, free, free_read, GivesPart, given, slot, slot_spell, SlotLawful, cons, each, cons_then, then_spell, ThenLawful, series, some_spell, cons_spell, ConsLawful}
+use Rattle.ac_codec.specs.Codec.{Codec, Outcome, Gives, ◌>>=◌, field, field_read, checked, test, test_read, tested, absent, pair, shaped, fitted, free, free_read, GivesPart, given, slot, slot_spell, SlotLawful, cons, each, cons_then, then_spell, ThenLawful, judged, judged_as, single, single_read, some_spell, cons_spell, ConsLawful}
 use Rattle.std.specs.Prelude.{is_some}
 use Rattle.std.specs.Option.{ForSome}
 use Rattle.ac_codec.proofs.Reading.{field_at, field_refused, field_out}
@@ -421,10 +421,65 @@ cons_then_sound {A} c f s t = record {
   ];
 }
 
-pub series_sound : {A : Type 0} (n : ℕ) (so_far : List A) (c : List A → Codec A) → ((xs : List A) → Sound (c xs)) → Sound (series n so_far c)
-unfolding series
-series_sound zero so_far c s = absent_sound []
-series_sound (suc n) so_far c s = cons_then_sound (c so_far) (λ a. series n (so_far ++ a ∷ []) c) (s so_far) (λ a. series_sound n (so_far ++ a ∷ []) c s)
+-- ---- several rows as one field
+
+-- each value has w bits, and w bits always have a value
+pub record IsOfWidth {A : Type 0} (w : ℕ) (c : Codec A) : Type 0 where
+  pub sound : Sound c
+  pub width : (a : A) → c.Lawful a → length (c.spell a) ≡ w
+  pub total : (l : List Bool) → w ≤ length l → (x : A × List Bool) × (c.read l ≡ Ok x)
+
+judged_ok : {A : Type 0} (o : Option Refused) (l : List Bool) (x y : A × List Bool) → judged_as o l x ≡ Ok y → (o ≡ None) × (x ≡ y)
+judged_ok None l x y e = (refl, ok_same x y e)
+judged_ok (Some d) l x y e = absurd cc
+
+judged_err : {A : Type 0} (o : Option Refused) (l : List Bool) (x : A × List Bool) (d : Refused) (at : List Bool) → judged_as o l x ≡ Err (d, at) → (o ≡ Some d) × (at ≡ l)
+judged_err None l x d at e = absurd cc
+judged_err {A} (Some r) l x d at e = let h = err_pair {A = A} r d l at e in (ap (λ (y : Refused). Some y) h.0, sym h.1)
+
+single_found : {A : Type 0} (w : ℕ) (refuse : A → Option Refused) (c : Codec A) → Sound c → (l : List Bool) (a : A) (rest : List Bool) → (length l < w) ⊎ (w ≤ length l) → single_read w refuse c.read l ≡ Ok (a, rest)
+    → (c.Lawful a × (refuse a ≡ None)) × (l ≡ c.spell a ++ rest)
+single_found {A} w refuse c s l a rest (inl lt) e =
+    let f : Outcome A = Err (OutOfBits, l) in
+    let g : f ≡ Ok (a, rest) = rw (lt-ltb (length l) w lt) at e in
+    absurd cc
+single_found {A} w refuse c s l a rest (inr le) e =
+    let g = rw (le-ltb (length l) w le) at e in
+    let x = bind_ok (c.read l) (judged refuse l) (a, rest) g in
+    let h = judged_ok (refuse x.0.0) l x.0 (a, rest) x.2 in
+    let f = s.found l x.0.0 x.0.1 x.1 in
+    let goal : A × List Bool → Type 0 = λ y. (c.Lawful y.0 × (refuse y.0 ≡ None)) × (l ≡ c.spell y.0 ++ y.1) in
+    subst goal h.1 ((f.0, h.0), f.1)
+
+single_refused : {A : Type 0} (w : ℕ) (refuse : A → Option Refused) (c : Codec A) → IsOfWidth w c → (l : List Bool) (d : Refused) (at : List Bool) → (length l < w) ⊎ (w ≤ length l) → single_read w refuse c.read l ≡ Err (d, at)
+    → (at ≡ l) × (((length l < w) × (d ≡ OutOfBits)) ⊎ ((a : A) × (rest : List Bool) × c.Lawful a × (l ≡ c.spell a ++ rest) × (refuse a ≡ Some d)))
+single_refused {A} w refuse c k l d at (inl lt) e =
+    let g = rw (lt-ltb (length l) w lt) at e in
+    let h = err_pair {A = A} OutOfBits d l at g in
+    (sym h.1, inl (lt, sym h.0))
+single_refused {A} w refuse c k l d at (inr le) e =
+    let g = rw (le-ltb (length l) w le) at e in
+    let x = k.total l le in
+    let h = judged_err (refuse x.0.0) l x.0 d at (sym (ap (λ r. r >>= judged refuse l) x.1) ∙ g) in
+    let f = k.sound.found l x.0.0 x.0.1 x.1 in
+    (h.1, inr (x.0.0, x.0.1, f.0, f.1, h.0))
+
+single_at : {A : Type 0} (w : ℕ) (refuse : A → Option Refused) (c : Codec A) → IsOfWidth w c → (a : A) (rest : List Bool) → c.Lawful a → single_read w refuse c.read (c.spell a ++ rest) ≡ judged_as (refuse a) (c.spell a ++ rest) (a, rest)
+single_at w refuse c k a rest h =
+    let n : length (c.spell a ++ rest) ≡ w + length rest = length-append (c.spell a) rest ∙ ap (λ m. m + length rest) (k.width a h) in
+    rw (le-ltb (length (c.spell a ++ rest)) w (omega (arith, n)), k.sound.only a rest h) refl
+
+pub single_sound : {A : Type 0} (w : ℕ) (refuse : A → Option Refused) (c : Codec A) → IsOfWidth w c → Sound (single w refuse c)
+unfolding single
+single_sound w refuse c k = record {
+  found = λ l a rest e. single_found w refuse c k.sound l a rest (cases_lt (length l) w) e;
+  only = λ a rest h. single_at w refuse c k a rest h.0 ∙ ap (λ o. judged_as o (c.spell a ++ rest) (a, rest)) h.1;
+  refused = λ l e at h. single_refused w refuse c k l e at (cases_lt (length l) w) h;
+  refuses = λ l e at h. elim h.1 [
+    | inl j ↦ rw (h.0, j.1, lt-ltb (length l) w j.0) refl
+    | inr j ↦ rw (h.0, j.3) (single_at w refuse c k j.0 j.1 j.2 ∙ ap (λ o. judged_as o (c.spell j.0 ++ j.1) (j.0, j.1)) j.4)
+  ];
+}
 
 pub part_refused : {X Y : Type 0} (part : X → Y) (c : Codec X) → Sound c → (r : Result Y Refused) (old new : List Bool) → GivesPart part r new (c.read old) → IfErr r (λ e. c.Refuses old e new)
 part_refused part c s (Ok y) old new h = tt

@@ -202,10 +202,26 @@ cons_then c f = record {
   read = λ l. c.read l >>= λ x. ((f x.0).read x.1 >>= λ y. Ok (x.0 ∷ y.0, y.1));
 }
 
--- n rows, each of which may depend on the values before it
-unfoldable pub series : {A : Type 0} → ℕ → List A → (List A → Codec A) → Codec (List A)
-series zero so_far c = absent []
-series (suc n) so_far c = cons_then (c so_far) (λ a. series n (so_far ++ a ∷ []) c)
+-- ---- several rows as one field
+
+abbrev pub judged_as : {A : Type 0} → Option Refused → List Bool → A × List Bool → Outcome A
+judged_as None here x = Ok x
+judged_as (Some e) here x = Err (e, here)
+
+abbrev pub judged : {A : Type 0} → (A → Option Refused) → List Bool → A × List Bool → Outcome A
+judged refuse here x = judged_as (refuse x.0) here x
+
+abbrev pub single_read : {A : Type 0} → ℕ → (A → Option Refused) → (List Bool → Outcome A) → List Bool → Outcome A
+single_read w refuse read l = if nat_lt (length l) w then Err (OutOfBits, l) else (read l >>= judged refuse l)
+
+-- w bits in all, whose values are refused where the first of them began
+unfoldable pub single : {A : Type 0} → ℕ → (A → Option Refused) → Codec A → Codec A
+single {A} w refuse c = record {
+  spell = c.spell;
+  Lawful = λ a. c.Lawful a × (refuse a ≡ None);
+  Refuses = λ l e at. (at ≡ l) × (((length l < w) × (e ≡ OutOfBits)) ⊎ ((a : A) × (rest : List Bool) × c.Lawful a × (l ≡ c.spell a ++ rest) × (refuse a ≡ Some e)));
+  read = single_read w refuse c.read;
+}
 
 -- ---- free bits
 

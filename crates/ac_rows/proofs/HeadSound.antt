@@ -1,8 +1,7 @@
 -- The fields of a head are sound.
-use Rattle.std.proofs.Common.{◌≡◌, refl, Bool, List}
-use Rattle.ac_codec.specs.Codec.{Codec, pair, free}
+use Rattle.std.proofs.Common.{refl}
+use Rattle.ac_codec.specs.Codec.{pair, free}
 use Rattle.ac_codec.proofs.Sound.{Sound, field_sound, test_sound, pair_sound, shaped_sound, given_sound, free_sound}
-use Rattle.ac_rows.specs.declared.head.Head.{Head}
 use Rattle.ac_rows.specs.HeadRows.{layout_rows, layout, layout_to, layout_from, service_rows, service, service_to, service_from, head_fields, head_to, head_from, whole_head, addbsi_bits}
 
 layout_rows_sound : Sound layout_rows

@@ -1,6 +1,6 @@
 -- Reuse: a row that a block lacks, and whose value the block needs, has the value of the last earlier block of the frame
 -- that has it (A/52 5.4.3). Blocks are those of one frame in their order.
-use Rattle.std.specs.Prelude.{◌≡◌, ◌<◌, ◌≤◌, ℕ, zero, suc, ◌+◌, ◌-◌, Bool, true, false, ◌&&◌, ◌==◌, nat_lt, nat_le, if◌then◌else◌, List, [], ◌∷◌, ◌++◌, length, take, Option, Some, None, slice_index, slice_index_or}
+use Rattle.std.specs.Prelude.{◌≡◌, ◌<◌, ◌≤◌, ℕ, zero, suc, ◌+◌, ◌-◌, Bool, false, ◌&&◌, ◌==◌, nat_lt, nat_le, is_some, if◌then◌else◌, List, [], ◌∷◌, ◌++◌, take, Option, Some, None, slice_index_or}
 use Rattle.std.specs.List.{count_by}
 use Rattle.std.specs.Option.{option_or, ForSome}
 use Rattle.ac_base.specs.declared.spans.Span.{Span}
@@ -9,6 +9,7 @@ use Rattle.ac_base.specs.Shape.{full_of, is_stereo, subbands, rematrix_bands, fu
 use Rattle.ac_rows.specs.declared.block.Block.{Block}
 use Rattle.ac_rows.specs.declared.head.Head.{Head}
 use Rattle.ac_rows.specs.declared.groups.Strategy.{Strategy}
+use Rattle.ac_rows.specs.declared.groups.Coupling.{Coupling}
 use Rattle.ac_rows.specs.Groups.{strategy_of}
 
 -- ---- values that may be there
@@ -49,16 +50,28 @@ held f earlier b = option_or (f b) (latest f earlier)
 
 -- ---- the coupling strategy that holds in a block
 
--- row by row and entry by entry, that of the block or else the latest
-abbrev pub held_strategy : List Block → Strategy → Strategy
-held_strategy earlier s = record {
+-- row by row and entry by entry, the first or else the second
+abbrev pub over : Strategy → Strategy → Strategy
+over s kept = record {
   cplstre = s.cplstre;
-  cplinu = option_or s.cplinu (latest (λ b. b.cplinu) earlier);
-  chincpl = listed 5 0 (λ i. option_or (entry s.chincpl i) (latest (λ b. entry b.chincpl i) earlier));
-  phsflginu = option_or s.phsflginu (latest (λ b. b.phsflginu) earlier);
-  cplbegf = option_or s.cplbegf (latest (λ b. b.cplbegf) earlier);
-  cplendf = option_or s.cplendf (latest (λ b. b.cplendf) earlier);
-  cplbndstrc = listed 18 0 (λ k. option_or (entry s.cplbndstrc k) (latest (λ b. entry b.cplbndstrc k) earlier));
+  cplinu = option_or s.cplinu kept.cplinu;
+  chincpl = listed 5 0 (λ i. option_or (entry s.chincpl i) (entry kept.chincpl i));
+  phsflginu = option_or s.phsflginu kept.phsflginu;
+  cplbegf = option_or s.cplbegf kept.cplbegf;
+  cplendf = option_or s.cplendf kept.cplendf;
+  cplbndstrc = listed 18 0 (λ k. option_or (entry s.cplbndstrc k) (entry kept.cplbndstrc k));
+}
+
+-- the latest of each row and entry
+abbrev pub latest_strategy : List Block → Strategy
+latest_strategy blocks = record {
+  cplstre = false;
+  cplinu = latest (λ b. b.cplinu) blocks;
+  chincpl = listed 5 0 (λ i. latest (λ b. entry b.chincpl i) blocks);
+  phsflginu = latest (λ b. b.phsflginu) blocks;
+  cplbegf = latest (λ b. b.cplbegf) blocks;
+  cplendf = latest (λ b. b.cplendf) blocks;
+  cplbndstrc = listed 18 0 (λ k. latest (λ b. entry b.cplbndstrc k) blocks);
 }
 
 -- cplbegf and cplendf, where coupling is in use (A/52 5.4.3.8, 5.4.3.11, 5.4.3.12)
@@ -69,24 +82,43 @@ range_of s = if holds s.cplinu then Some (number s.cplbegf, number s.cplendf) el
 abbrev pub is_coupled : Strategy → ℕ → Bool
 is_coupled s i = holds s.cplinu && holds (entry s.chincpl i)
 
--- phase flags are in use (A/52 5.4.3.10)
-abbrev pub has_phases : Strategy → Bool
-has_phases s = holds s.cplinu && holds s.phsflginu
-
 -- the bands of the coupling channel: its subbands, less those that are joined to the one before (A/52 5.4.3.13)
 abbrev pub bands_of : Strategy → ℕ
 bands_of s = subbands (range_of s) - count_by holds (take (subbands (range_of s)) s.cplbndstrc)
+
+-- what the rows of a block see of its coupling
+abbrev pub coupling_of : Strategy → Coupling
+coupling_of s = record {
+  range = range_of s;
+  coupled = listed 5 0 (is_coupled s);
+  phases = holds s.cplinu && holds s.phsflginu;  -- A/52 5.4.3.10
+  bands = bands_of s;
+}
+
+-- the coupling that holds in a block behind these, of which this is the strategy that it sends
+abbrev pub coupling_with : List Block → Strategy → Coupling
+coupling_with earlier s = coupling_of (over s (latest_strategy earlier))
+
+-- the same of a whole block
+abbrev pub coupling_in : List Block → Block → Coupling
+coupling_in earlier b = coupling_with earlier (strategy_of b)
+
+abbrev pub channel_coupled : Coupling → ℕ → Bool
+channel_coupled c i = slice_index_or c.coupled i false
+
+-- the first subband of the coupling channel
+abbrev pub begin_of : Option (ℕ × ℕ) → ℕ
+begin_of None = 0
+begin_of (Some p) = p.0
 
 -- the bin behind the last of an uncoupled channel, where its bandwidth is known
 abbrev pub end_free : Option ℕ → Option ℕ
 end_free None = None
 end_free (Some w) = Some (end_of w)
 
--- the bin behind the last of a full channel in a block after these, with this coupling strategy and bandwidth; none where no
--- bandwidth is known (A/52 7.1.3)
-abbrev pub end_with : Strategy → ℕ → Option ℕ → Option ℕ
-end_with s i chbwcod =
-    if is_coupled s i then Some (coupling_start (number s.cplbegf)) else end_free chbwcod
+-- the bin behind the last of a full channel with this bandwidth, unless it is coupled (A/52 7.1.3)
+abbrev pub channel_end : Coupling → ℕ → Option ℕ → Option ℕ
+channel_end c i chbwcod = if channel_coupled c i then Some (coupling_start (begin_of c.range)) else end_free chbwcod
 
 -- ---- a block with all that it needs
 
@@ -99,52 +131,52 @@ unfoldable pub filled_of : Head → List Block → Block → Block
 filled_of h earlier b =
     let full = full_of h.acmod in
     let stereo = is_stereo h.acmod in
-    let s = held_strategy earlier (strategy_of b) in
-    let used = holds s.cplinu in
+    let c = coupling_in earlier b in
+    let used = is_some c.range in
     record {
       blksw = b.blksw;
       dithflag = b.dithflag;
       dynrnge = b.dynrnge;
       dynrng = b.dynrng;
       cplstre = b.cplstre;
-      cplinu = held (λ c. c.cplinu) earlier b;
-      chincpl = listed 5 0 (λ i. needed (used && nat_lt i full) (λ c. entry c.chincpl i) earlier b);
-      phsflginu = needed (used && stereo) (λ c. c.phsflginu) earlier b;
-      cplbegf = needed used (λ c. c.cplbegf) earlier b;
-      cplendf = needed used (λ c. c.cplendf) earlier b;
-      cplbndstrc = listed 18 0 (λ k. needed (nat_le 1 k && nat_lt k (subbands (range_of s))) (λ c. entry c.cplbndstrc k) earlier b);
+      cplinu = held (λ d. d.cplinu) earlier b;
+      chincpl = listed 5 0 (λ i. needed (used && nat_lt i full) (λ d. entry d.chincpl i) earlier b);
+      phsflginu = needed (used && stereo) (λ d. d.phsflginu) earlier b;
+      cplbegf = needed used (λ d. d.cplbegf) earlier b;
+      cplendf = needed used (λ d. d.cplendf) earlier b;
+      cplbndstrc = listed 18 0 (λ k. needed (nat_le 1 k && nat_lt k (subbands c.range)) (λ d. entry d.cplbndstrc k) earlier b);
       cplcoe = b.cplcoe;
-      mstrcplco = listed 5 0 (λ i. needed (is_coupled s i) (λ c. entry c.mstrcplco i) earlier b);
-      cplcoexp = listed 5 0 (λ i. listed 18 0 (λ k. needed (is_coupled s i && nat_lt k (bands_of s)) (λ c. entry (slice_index_or c.cplcoexp i []) k) earlier b));
-      cplcomant = listed 5 0 (λ i. listed 18 0 (λ k. needed (is_coupled s i && nat_lt k (bands_of s)) (λ c. entry (slice_index_or c.cplcomant i []) k) earlier b));
-      phsflg = listed 18 0 (λ k. if stereo && nat_lt k (bands_of s) then Some (has_phases s && holds (held (λ c. entry c.phsflg k) earlier b)) else None);
+      mstrcplco = listed 5 0 (λ i. needed (channel_coupled c i) (λ d. entry d.mstrcplco i) earlier b);
+      cplcoexp = listed 5 0 (λ i. listed 18 0 (λ k. needed (channel_coupled c i && nat_lt k c.bands) (λ d. entry (slice_index_or d.cplcoexp i []) k) earlier b));
+      cplcomant = listed 5 0 (λ i. listed 18 0 (λ k. needed (channel_coupled c i && nat_lt k c.bands) (λ d. entry (slice_index_or d.cplcomant i []) k) earlier b));
+      phsflg = listed 18 0 (λ k. if stereo && nat_lt k c.bands then Some (c.phases && holds (held (λ d. entry d.phsflg k) earlier b)) else None);
       rematstr = b.rematstr;
-      rematflg = listed 4 0 (λ k. if stereo && nat_lt k (rematrix_bands (range_of s)) then Some (holds (held (λ c. entry c.rematflg k) earlier b)) else None);
+      rematflg = listed 4 0 (λ k. if stereo && nat_lt k (rematrix_bands c.range) then Some (holds (held (λ d. entry d.rematflg k) earlier b)) else None);
       cplexpstr = b.cplexpstr;
       chexpstr = b.chexpstr;
       lfeexpstr = b.lfeexpstr;
-      chbwcod = listed 5 0 (λ i. if is_coupled s i then None else needed (nat_lt i full) (λ c. entry c.chbwcod i) earlier b);
-      cplabsexp = needed used (λ c. c.cplabsexp) earlier b;
-      exps = listed 5 0 (λ i. needed (nat_lt i full) (λ c. entry c.exps i) earlier b);
+      chbwcod = listed 5 0 (λ i. if channel_coupled c i then None else needed (nat_lt i full) (λ d. entry d.chbwcod i) earlier b);
+      cplabsexp = needed used (λ d. d.cplabsexp) earlier b;
+      exps = listed 5 0 (λ i. needed (nat_lt i full) (λ d. entry d.exps i) earlier b);
       gainrng = b.gainrng;
-      lfeexps = needed h.lfeon (λ c. c.lfeexps) earlier b;
+      lfeexps = needed h.lfeon (λ d. d.lfeexps) earlier b;
       baie = b.baie;
-      sdcycod = held (λ c. c.sdcycod) earlier b;
-      fdcycod = held (λ c. c.fdcycod) earlier b;
-      sgaincod = held (λ c. c.sgaincod) earlier b;
-      dbpbcod = held (λ c. c.dbpbcod) earlier b;
-      floorcod = held (λ c. c.floorcod) earlier b;
+      sdcycod = held (λ d. d.sdcycod) earlier b;
+      fdcycod = held (λ d. d.fdcycod) earlier b;
+      sgaincod = held (λ d. d.sgaincod) earlier b;
+      dbpbcod = held (λ d. d.dbpbcod) earlier b;
+      floorcod = held (λ d. d.floorcod) earlier b;
       snroffste = b.snroffste;
-      csnroffst = held (λ c. c.csnroffst) earlier b;
-      cplfsnroffst = needed used (λ c. c.cplfsnroffst) earlier b;
-      cplfgaincod = needed used (λ c. c.cplfgaincod) earlier b;
-      fsnroffst = listed 5 0 (λ i. needed (nat_lt i full) (λ c. entry c.fsnroffst i) earlier b);
-      fgaincod = listed 5 0 (λ i. needed (nat_lt i full) (λ c. entry c.fgaincod i) earlier b);
-      lfefsnroffst = needed h.lfeon (λ c. c.lfefsnroffst) earlier b;
-      lfefgaincod = needed h.lfeon (λ c. c.lfefgaincod) earlier b;
+      csnroffst = held (λ d. d.csnroffst) earlier b;
+      cplfsnroffst = needed used (λ d. d.cplfsnroffst) earlier b;
+      cplfgaincod = needed used (λ d. d.cplfgaincod) earlier b;
+      fsnroffst = listed 5 0 (λ i. needed (nat_lt i full) (λ d. entry d.fsnroffst i) earlier b);
+      fgaincod = listed 5 0 (λ i. needed (nat_lt i full) (λ d. entry d.fgaincod i) earlier b);
+      lfefsnroffst = needed h.lfeon (λ d. d.lfefsnroffst) earlier b;
+      lfefgaincod = needed h.lfeon (λ d. d.lfefgaincod) earlier b;
       cplleake = b.cplleake;
-      cplfleak = needed used (λ c. c.cplfleak) earlier b;
-      cplsleak = needed used (λ c. c.cplsleak) earlier b;
+      cplfleak = needed used (λ d. d.cplfleak) earlier b;
+      cplsleak = needed used (λ d. d.cplsleak) earlier b;
       deltbaie = b.deltbaie;
       skiple = b.skiple;
       skipl = b.skipl;

@@ -1,5 +1,5 @@
 -- The fields of a frame before block 0 (A/52 5.3.1, 5.3.2), a line for each.
-use Rattle.std.specs.Prelude.{◌≡◌, ℕ, ◌+◌, ◌*◌, ◌==◌, Bool, List, Option, Some, None, if◌then◌else◌}
+use Rattle.std.specs.Prelude.{ℕ, ◌+◌, ◌*◌, ◌==◌, Bool, List, Option, Some, None, if◌then◌else◌}
 use Rattle.ac_base.specs.Shape.{has_center, has_surround, is_stereo}
 use Rattle.ac_codec.specs.declared.refused.Refused.{Refused}
 use Rattle.ac_codec.specs.declared.refused.Refused.TheVariants.{BadSync, BadBsid, DualMono}
@@ -82,25 +82,69 @@ service = shaped service_to service_from service_rows
 
 abbrev pub layout_of : Head → Layout
 layout_of h = record {
-    syncword = h.syncword; crc1 = h.crc1; fscod = h.fscod; frmsizecod = h.frmsizecod; bsid = h.bsid; bsmod = h.bsmod;
-    acmod = h.acmod; cmixlev = h.cmixlev; surmixlev = h.surmixlev; dsurmod = h.dsurmod; lfeon = h.lfeon; dialnorm = h.dialnorm;
-  }
+  syncword = h.syncword;
+  crc1 = h.crc1;
+  fscod = h.fscod;
+  frmsizecod = h.frmsizecod;
+  bsid = h.bsid;
+  bsmod = h.bsmod;
+  acmod = h.acmod;
+  cmixlev = h.cmixlev;
+  surmixlev = h.surmixlev;
+  dsurmod = h.dsurmod;
+  lfeon = h.lfeon;
+  dialnorm = h.dialnorm;
+}
 
 abbrev pub service_of : Head → Service
 service_of h = record {
-    compre = h.compre; compr = h.compr; langcode = h.langcode; langcod = h.langcod; audprodie = h.audprodie; mixlevel = h.mixlevel;
-    roomtyp = h.roomtyp; copyrightb = h.copyrightb; origbs = h.origbs; timecod1e = h.timecod1e; timecod1 = h.timecod1;
-    timecod2e = h.timecod2e; timecod2 = h.timecod2; addbsie = h.addbsie; addbsil = h.addbsil;
-  }
+  compre = h.compre;
+  compr = h.compr;
+  langcode = h.langcode;
+  langcod = h.langcod;
+  audprodie = h.audprodie;
+  mixlevel = h.mixlevel;
+  roomtyp = h.roomtyp;
+  copyrightb = h.copyrightb;
+  origbs = h.origbs;
+  timecod1e = h.timecod1e;
+  timecod1 = h.timecod1;
+  timecod2e = h.timecod2e;
+  timecod2 = h.timecod2;
+  addbsie = h.addbsie;
+  addbsil = h.addbsil;
+}
 
 abbrev pub head_to : Layout × Service → Head
 head_to p = record {
-    syncword = p.0.syncword; crc1 = p.0.crc1; fscod = p.0.fscod; frmsizecod = p.0.frmsizecod; bsid = p.0.bsid; bsmod = p.0.bsmod;
-    acmod = p.0.acmod; cmixlev = p.0.cmixlev; surmixlev = p.0.surmixlev; dsurmod = p.0.dsurmod; lfeon = p.0.lfeon; dialnorm = p.0.dialnorm;
-    compre = p.1.compre; compr = p.1.compr; langcode = p.1.langcode; langcod = p.1.langcod; audprodie = p.1.audprodie; mixlevel = p.1.mixlevel;
-    roomtyp = p.1.roomtyp; copyrightb = p.1.copyrightb; origbs = p.1.origbs; timecod1e = p.1.timecod1e; timecod1 = p.1.timecod1;
-    timecod2e = p.1.timecod2e; timecod2 = p.1.timecod2; addbsie = p.1.addbsie; addbsil = p.1.addbsil;
-  }
+  syncword = p.0.syncword;
+  crc1 = p.0.crc1;
+  fscod = p.0.fscod;
+  frmsizecod = p.0.frmsizecod;
+  bsid = p.0.bsid;
+  bsmod = p.0.bsmod;
+  acmod = p.0.acmod;
+  cmixlev = p.0.cmixlev;
+  surmixlev = p.0.surmixlev;
+  dsurmod = p.0.dsurmod;
+  lfeon = p.0.lfeon;
+  dialnorm = p.0.dialnorm;
+  compre = p.1.compre;
+  compr = p.1.compr;
+  langcode = p.1.langcode;
+  langcod = p.1.langcod;
+  audprodie = p.1.audprodie;
+  mixlevel = p.1.mixlevel;
+  roomtyp = p.1.roomtyp;
+  copyrightb = p.1.copyrightb;
+  origbs = p.1.origbs;
+  timecod1e = p.1.timecod1e;
+  timecod1 = p.1.timecod1;
+  timecod2e = p.1.timecod2e;
+  timecod2 = p.1.timecod2;
+  addbsie = p.1.addbsie;
+  addbsil = p.1.addbsil;
+}
 
 abbrev pub head_from : Head → Layout × Service
 head_from h = (layout_of h, service_of h)

@@ -1,3 +1,5 @@
 pub mod Filled
 pub mod Groups
 pub mod HeadRows
+pub mod Known
+pub mod Spelled

@@ -22,6 +22,19 @@ pub struct Strategy {
     pub cplbndstrc: [Option<bool>; 18],
 }
 
+/// What the other rows of a block see of its coupling, whether it was sent in the block or before.
+#[derive(Clone, Copy)]
+pub struct Coupling {
+    /// cplbegf and cplendf, where coupling is in use.
+    pub range: Option<(u8, u8)>,
+    /// Which full channels are coupled.
+    pub coupled: [bool; 5],
+    /// Whether phase flags are in use.
+    pub phases: bool,
+    /// The number of bands.
+    pub bands: usize,
+}
+
 /// The coupling coordinates of all channels, and the phase flags (A/52 5.4.3.14 to 5.4.3.18).
 #[derive(Clone, Copy)]
 pub struct Shared {
@@ -80,4 +93,27 @@ pub struct Rest {
     pub deltbaie: bool,
     pub skiple: bool,
     pub skipl: Option<u16>,
+}
+
+/// What the rows of a block see of the blocks before it.
+#[derive(Clone, Copy)]
+pub struct Known {
+    /// Whether there is a block before.
+    pub begun: bool,
+    /// The latest of each row of the coupling strategy.
+    pub strategy: Strategy,
+    /// The number of bands of each channel's latest coordinates.
+    pub coordinates: [Option<usize>; 5],
+    /// cplbegf and cplendf at the latest exponents of the coupling channel.
+    pub sent: Option<(u8, u8)>,
+    /// The end of each full channel's latest exponents.
+    pub ends: [Option<usize>; 5],
+    /// The latest chbwcod of each full channel.
+    pub widths: [Option<u8>; 5],
+    /// Whether LFE's exponents were sent.
+    pub low: bool,
+    /// Whether the coupling channel's offset was sent.
+    pub offset: bool,
+    /// Whether the coupling channel's leaks were sent.
+    pub leaks: bool,
 }

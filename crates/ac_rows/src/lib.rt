@@ -4,6 +4,7 @@
 
 mod block;
 mod channels;
+mod exponent;
 mod groups;
 mod head;
 mod head_groups;

@@ -1,4 +1,4 @@
-use Rattle.std.proofs.Common.{◌≡◌, ◌++◌, ℕ, ◌<◌, subst, Option, Some, None, arith, refl}
+use Rattle.std.proofs.Common.{◌≡◌, None, arith, refl}
 use Rattle.std.proofs.lemmas.Grind.{common_steps}
 use Rattle.ac_codec.specs.declared.refused.Refused.TheVariants.{DualMono}
 use Rattle.ac_rows.specs.HeadRows.{no_dual}

@@ -1,4 +1,4 @@
-use Rattle.std.proofs.Common.{◌≡◌, refl}
+use Rattle.std.proofs.Common.{refl}
 use Rattle.ac_rows.specs.HeadRows.{whole_head}
 use Rattle.ac_codec.specs.Codec.{pair}
 use Rattle.ac_rows.proofs.head_reading.read_whole.Goals as goal

@@ -1,6 +1,5 @@
-use Rattle.std.proofs.Common.{◌≡◌, ◌++◌, ℕ, ◌<◌, subst, Option, Some, None, arith, refl}
+use Rattle.std.proofs.Common.{◌≡◌, Some, None, arith, refl}
 use Rattle.std.proofs.lemmas.Grind.{common_steps}
-use Rattle.ac_bits.specs.Bits.{bits}
 use Rattle.ac_codec.specs.declared.refused.Refused.TheVariants.{BadBsid}
 use Rattle.ac_rows.specs.HeadRows.{eight_only}
 use Rattle.ac_codec.proofs.Reading.{field_ok, field_refused, field_out}
