@@ -1,3 +1,4 @@
+pub mod BlockSound
 pub mod Deciding
 pub mod HeadSound
 pub mod SpelledSound

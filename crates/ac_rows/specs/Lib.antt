@@ -1,3 +1,4 @@
+pub mod BlockRows
 pub mod Filled
 pub mod Groups
 pub mod HeadRows
