@@ -9,13 +9,14 @@ use Rattle.ac_codec.specs.Codec.{Codec, field, any, flag, test, zero_where, abse
 use Rattle.ac_codec.proofs.Sound.{Sound, field_sound, test_sound, absent_sound, pair_sound, shaped_sound, fitted_sound, given_sound, slot_sound, each_sound, cons_then_sound, free_sound}
 use Rattle.ac_rows.specs.declared.block.Block.{Block}
 use Rattle.ac_rows.specs.declared.head.Head.{Head}
+use Rattle.ac_rows.specs.declared.groups.ChannelShared.{ChannelShared}
 use Rattle.ac_rows.specs.declared.groups.Shared.{Shared}
 use Rattle.ac_rows.specs.declared.groups.Coupling.{Coupling}
 use Rattle.ac_rows.specs.declared.groups.Codes.{Codes}
 use Rattle.ac_rows.specs.declared.groups.Known.{Known}
 use Rattle.ac_rows.specs.Filled.{holds}
 use Rattle.ac_rows.specs.Spelled.{spelled_row}
-use Rattle.ac_rows.specs.BlockRows.{clear_each, start, start_to, start_from, coupled_each, joined_each, strategy, strategy_to, strategy_from, firsts, seconds, zipped, alternating, coordinate_each, ChannelShared, channel_shared, shared_each, coes, masters, coordinate_exps, coordinate_mants, joined_channels, phase_each, shared_to, shared_from, SharedFits, shared, rematrix_each, strategy_each, width_each, codes, codes_to, codes_from, exponents_each, exponents, exponents_to, exponents_from, offset_each, parameters, offsets, leaks, allocation, allocation_to, allocation_from, rest, rest_to, rest_from, block_rows, groups_to, groups_from, block_fields, whole_block, skip_bits}
+use Rattle.ac_rows.specs.BlockRows.{clear_each, start, start_to, start_from, coupled_each, joined_each, strategy, strategy_to, strategy_from, firsts, seconds, zipped, alternating, coordinate_each, channel_to, channel_from, channel_shared, shared_each, coes, masters, coordinate_exps, coordinate_mants, joined_channels, phase_each, shared_to, shared_from, SharedFits, shared, rematrix_each, strategy_each, width_each, codes, codes_to, codes_from, exponents_each, exponents, exponents_to, exponents_from, offset_each, parameters, offsets, leaks, allocation, allocation_to, allocation_from, rest, rest_to, rest_from, block_rows, groups_to, groups_from, block_fields, whole_block, skip_bits}
 use Rattle.ac_rows.proofs.SpelledSound.{spelled_row_sound}
 
 -- ---- two lists and a list of pairs
@@ -104,7 +105,7 @@ coordinate_each_sound bands = alternating_sound _ (each_sound _ _ _ (λ i. pair_
 
 channel_shared_sound : (coupled may : Bool) (bands : ℕ) → Sound (channel_shared coupled may bands)
 unfolding channel_shared
-channel_shared_sound coupled may bands = search (pair_sound, field_sound, test_sound, given_sound, coordinate_each_sound) depth 20
+channel_shared_sound coupled may bands = shaped_sound channel_to channel_from _ (λ _. refl) (λ _. refl) (search (pair_sound, field_sound, test_sound, given_sound, coordinate_each_sound) depth 20)
 
 shared_each_sound : (known : Known) (c : Coupling) → Sound (shared_each known c)
 unfolding shared_each

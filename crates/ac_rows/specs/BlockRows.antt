@@ -14,6 +14,7 @@ use Rattle.ac_rows.specs.declared.head.Head.{Head}
 use Rattle.ac_rows.specs.declared.groups.Start.{Start}
 use Rattle.ac_rows.specs.declared.groups.Strategy.{Strategy}
 use Rattle.ac_rows.specs.declared.groups.Coupling.{Coupling}
+use Rattle.ac_rows.specs.declared.groups.ChannelShared.{ChannelShared}
 use Rattle.ac_rows.specs.declared.groups.Shared.{Shared}
 use Rattle.ac_rows.specs.declared.groups.Codes.{Codes}
 use Rattle.ac_rows.specs.declared.groups.Exponents.{Exponents}
@@ -106,38 +107,41 @@ alternating c = fitted (λ xs. (firsts xs, seconds xs)) (λ p. zipped p.0 p.1) (
 unfoldable pub coordinate_each : ℕ → Codec (List (Option ℕ) × List (Option ℕ))
 coordinate_each bands = alternating (each 18 0 (λ k. pair (given (nat_lt k bands) (field 4 any)) (λ _. given (nat_lt k bands) (field 4 any))))
 
-abbrev pub ChannelShared : Type 0
-ChannelShared = Option Bool × (Option ℕ × (List (Option ℕ) × List (Option ℕ)))
+abbrev pub channel_to : Option Bool × (Option ℕ × (List (Option ℕ) × List (Option ℕ))) → ChannelShared
+channel_to (a, (b, (c, d))) = record { cplcoe = a; mstrcplco = b; cplcoexp = c; cplcomant = d }
+
+abbrev pub channel_from : ChannelShared → Option Bool × (Option ℕ × (List (Option ℕ) × List (Option ℕ)))
+channel_from x = (x.cplcoe, (x.mstrcplco, (x.cplcoexp, x.cplcomant)))
 
 -- a channel's cplcoe, mstrcplco, and coordinates
 unfoldable pub channel_shared : Bool → Bool → ℕ → Codec ChannelShared
-channel_shared coupled may bands =
+channel_shared coupled may bands = shaped channel_to channel_from (
     pair (given coupled (test (zero_where may (NoReuse Cplcoe)))) (λ cplcoe.  -- cplcoe
     pair (given (holds cplcoe) (field 2 any)) (λ _.  -- mstrcplco
-    coordinate_each (if holds cplcoe then bands else 0)))  -- cplcoexp, cplcomant
+    coordinate_each (if holds cplcoe then bands else 0))))  -- cplcoexp, cplcomant
 
 unfoldable pub shared_each : Known → Coupling → Codec (List ChannelShared)
 shared_each known c = each 5 0 (λ i. channel_shared (channel_coupled c i) (may_keep_coordinates known c i) c.bands)
 
 abbrev pub coes : List ChannelShared → List (Option Bool)
 coes [] = []
-coes (x ∷ xs) = x.0 ∷ coes xs
+coes (x ∷ xs) = x.cplcoe ∷ coes xs
 
 abbrev pub masters : List ChannelShared → List (Option ℕ)
 masters [] = []
-masters (x ∷ xs) = x.1.0 ∷ masters xs
+masters (x ∷ xs) = x.mstrcplco ∷ masters xs
 
 abbrev pub coordinate_exps : List ChannelShared → List (List (Option ℕ))
 coordinate_exps [] = []
-coordinate_exps (x ∷ xs) = x.1.1.0 ∷ coordinate_exps xs
+coordinate_exps (x ∷ xs) = x.cplcoexp ∷ coordinate_exps xs
 
 abbrev pub coordinate_mants : List ChannelShared → List (List (Option ℕ))
 coordinate_mants [] = []
-coordinate_mants (x ∷ xs) = x.1.1.1 ∷ coordinate_mants xs
+coordinate_mants (x ∷ xs) = x.cplcomant ∷ coordinate_mants xs
 
 -- the same by four lists
 abbrev pub joined_channels : List (Option Bool) → List (Option ℕ) → List (List (Option ℕ)) → List (List (Option ℕ)) → List ChannelShared
-joined_channels (w ∷ ws) (x ∷ xs) (y ∷ ys) (z ∷ zs) = (w, (x, (y, z))) ∷ joined_channels ws xs ys zs
+joined_channels (w ∷ ws) (x ∷ xs) (y ∷ ys) (z ∷ zs) = record { cplcoe = w; mstrcplco = x; cplcoexp = y; cplcomant = z } ∷ joined_channels ws xs ys zs
 joined_channels ws xs ys zs = []
 
 -- a phase flag for each band, where some channel's coordinates are sent
@@ -146,7 +150,7 @@ phase_each bands = each 18 0 (λ k. given (nat_le 0 k && nat_lt k bands) flag)
 
 abbrev pub any_sent : List ChannelShared → Bool
 any_sent [] = false
-any_sent (x ∷ xs) = holds x.0 || any_sent xs
+any_sent (x ∷ xs) = holds x.cplcoe || any_sent xs
 
 abbrev pub shared_to : List ChannelShared × List (Option Bool) → Shared
 shared_to p = record { cplcoe = coes p.0; mstrcplco = masters p.0; cplcoexp = coordinate_exps p.0; cplcomant = coordinate_mants p.0; phsflg = p.1 }

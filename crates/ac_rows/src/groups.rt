@@ -35,6 +35,15 @@ pub struct Coupling {
     pub bands: usize,
 }
 
+/// The coupling coordinates of one channel (A/52 5.4.3.14 to 5.4.3.17).
+#[derive(Clone, Copy)]
+pub struct ChannelShared {
+    pub cplcoe: Option<bool>,
+    pub mstrcplco: Option<u8>,
+    pub cplcoexp: [Option<u8>; 18],
+    pub cplcomant: [Option<u8>; 18],
+}
+
 /// The coupling coordinates of all channels, and the phase flags (A/52 5.4.3.14 to 5.4.3.18).
 #[derive(Clone, Copy)]
 pub struct Shared {

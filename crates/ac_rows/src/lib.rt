@@ -5,6 +5,9 @@
 mod block;
 mod channels;
 mod exponent;
+mod optional;
+mod start;
+mod strategy;
 mod groups;
 mod head;
 mod head_groups;
