@@ -17,6 +17,7 @@ use Rattle.ac_rows.specs.declared.groups.Known.{Known}
 use Rattle.ac_rows.specs.Filled.{holds}
 use Rattle.ac_rows.specs.Spelled.{spelled_row}
 use Rattle.ac_rows.specs.BlockRows.{clear_each, start, start_to, start_from, coupled_each, joined_each, strategy, strategy_to, strategy_from, firsts, seconds, zipped, alternating, coordinate_each, channel_to, channel_from, channel_shared, shared_each, coes, masters, coordinate_exps, coordinate_mants, joined_channels, phase_each, shared_to, shared_from, SharedFits, shared, rematrix_each, strategy_each, width_each, codes, codes_to, codes_from, exponents_each, exponents, exponents_to, exponents_from, offset_each, parameters, offsets, leaks, allocation, allocation_to, allocation_from, rest, rest_to, rest_from, block_rows, groups_to, groups_from, block_fields, whole_block, skip_bits}
+use Rattle.ac_rows.proofs.Pairs.{zipped_firsts, zipped_seconds}
 use Rattle.ac_rows.proofs.SpelledSound.{spelled_row_sound}
 
 -- ---- two lists and a list of pairs
@@ -28,23 +29,12 @@ same_length : {A B : Type 0} (xs : List (A × B)) → length (firsts xs) ≡ len
 same_length [] = refl
 same_length (x ∷ xs) = ap suc (same_length xs)
 
-firsts_of : {A B : Type 0} (xs : List A) (ys : List B) → length xs ≡ length ys → firsts (zipped xs ys) ≡ xs
-firsts_of [] ys h = refl
-firsts_of (x ∷ xs) [] h = absurd (omega (arith, h))
-firsts_of (x ∷ xs) (y ∷ ys) h = ap (λ l. x ∷ l) (firsts_of xs ys (omega (arith, h)))
-
-seconds_of : {A B : Type 0} (xs : List A) (ys : List B) → length xs ≡ length ys → seconds (zipped xs ys) ≡ ys
-seconds_of [] [] h = refl
-seconds_of [] (y ∷ ys) h = absurd (omega (arith, h))
-seconds_of (x ∷ xs) [] h = absurd (omega (arith, h))
-seconds_of (x ∷ xs) (y ∷ ys) h = ap (λ l. y ∷ l) (seconds_of xs ys (omega (arith, h)))
-
 pub alternating_sound : {A B : Type 0} (c : Codec (List (A × B))) → Sound c → Sound (alternating c)
 unfolding alternating
 alternating_sound {A} {B} c s =
     fitted_sound (λ xs. (firsts xs, seconds xs)) (λ p. zipped p.0 p.1) (λ p. length p.0 ≡ length p.1) c
     (λ xs h. (same_length xs, zipped_back xs))
-    (λ p h. let P : List A → List B → List A × List B = λ x y. (x, y) in ap₂ P (firsts_of p.0 p.1 h) (seconds_of p.0 p.1 h))
+    (λ p h. let P : List A → List B → List A × List B = λ x y. (x, y) in ap₂ P (zipped_firsts p.0 p.1 h) (zipped_seconds p.0 p.1 h))
     s
 
 -- ---- four lists and a list of channels

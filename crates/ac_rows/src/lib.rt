@@ -6,6 +6,8 @@ mod block;
 mod channels;
 mod exponent;
 mod optional;
+mod reuse;
+mod shared;
 mod start;
 mod strategy;
 mod groups;
