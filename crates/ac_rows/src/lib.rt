@@ -2,7 +2,9 @@
 //! (A/52 5.3, 5.4).
 #![tactic(auto)]
 
+mod allocation;
 mod block;
+mod codes;
 mod channels;
 mod exponent;
 mod optional;
