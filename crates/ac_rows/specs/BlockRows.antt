@@ -1,7 +1,8 @@
 -- The fields of a block before its mantissas (A/52 5.3.3), a line for each, in seven groups. Which fields are there follows from
 -- acmod and lfeon of the head, from the fields before, from the coupling that holds in the block, and from nothing else; what
 -- earlier blocks gave is asked for only by fields that are refused where there is nothing to reuse.
-use Rattle.std.specs.Prelude.{◌≡◌, ℕ, zero, suc, ◌+◌, ◌*◌, ◌==◌, ◌&&◌, ◌||◌, not, Bool, true, false, nat_lt, nat_le, is_some, if◌then◌else◌, List, [], ◌∷◌, ◌++◌, length, Option, Some, None, slice_index}
+use Rattle.std.specs.Option.{ForSome}
+use Rattle.std.specs.Prelude.{◌≡◌, ◌<◌, ◌≤◌, ℕ, zero, suc, ◌+◌, ◌*◌, ◌==◌, ◌&&◌, ◌||◌, not, Bool, true, false, nat_lt, nat_le, is_some, if◌then◌else◌, List, [], ◌∷◌, ◌++◌, length, Option, Some, None, slice_index}
 use Rattle.ac_base.specs.declared.spans.Span.{Span}
 use Rattle.ac_base.specs.Shape.{full_of, is_stereo, subbands, rematrix_bands, full_span, next_span, low_span, count_of}
 use Rattle.ac_expo.specs.Spelling.{Spelling}
@@ -353,3 +354,16 @@ AreLawfulAfter h before (b ∷ bs) = (block_fields h before).Lawful b × AreLawf
 -- the first blocks of a frame
 abbrev pub AreLawful : Head → List Block → Type 0
 AreLawful h blocks = AreLawfulAfter h [] blocks
+
+-- ---- bounds, of which the bins of a channel are made
+
+-- a coupling range of 4-bit codes that has a subband
+abbrev pub HasSubbands : Option (ℕ × ℕ) → Type 0
+HasSubbands range = ForSome range (λ p. (p.0 ≤ 15) × (p.1 ≤ 15) × (p.0 ≤ p.1 + 2))
+
+-- strategies of 2 bits, and bandwidths that aren't reserved
+pub record CodesFit (c : Coupling) (k : Codes) : Type 0 where
+  pub shared : number k.cplexpstr ≤ 3
+  pub used : 0 < number k.cplexpstr → is_some c.range ≡ true
+  pub kinds : (i : ℕ) → i < 5 → slice_index k.chexpstr i ≤ 3
+  pub widths : (i : ℕ) → i < 5 → number (entry k.chbwcod i) ≤ 60
