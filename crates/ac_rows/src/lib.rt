@@ -7,6 +7,7 @@ mod block;
 mod codes;
 mod channels;
 mod exponent;
+mod known;
 mod optional;
 mod reuse;
 mod shared;
