@@ -7,7 +7,7 @@ use Rattle.ac_codec.specs.declared.refused.Refused.TheVariants.{Reserved}
 use Rattle.ac_codec.specs.declared.refused.Row.TheVariants.{Chincpl}
 use Rattle.ac_codec.specs.Codec.{Codec, field, any, flag, test, zero_where, absent, given, slot, pair, shaped, fitted, each, cons_then, free}
 use Rattle.ac_codec.proofs.Sound.{Sound, field_sound, test_sound, absent_sound, pair_sound, shaped_sound, fitted_sound, given_sound, slot_sound, each_sound, cons_then_sound, free_sound}
-use Rattle.ac_rows.specs.declared.block.Block.{Block}
+use Rattle.ac_rows.specs.Blocks.{Block}
 use Rattle.ac_rows.specs.declared.head.Head.{Head}
 use Rattle.ac_rows.specs.declared.groups.ChannelShared.{ChannelShared}
 use Rattle.ac_rows.specs.declared.groups.Shared.{Shared}

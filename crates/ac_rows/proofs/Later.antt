@@ -3,7 +3,7 @@ use Rattle.std.proofs.Common.{◌≡◌, ℕ, zero, suc, ◌+◌, ◌<◌, ◌||
 use Rattle.std.specs.List.{list_any}
 use Rattle.std.specs.Option.{option_or}
 use Rattle.std.proofs.lemmas.List.{append-nil}
-use Rattle.ac_rows.specs.declared.block.Block.{Block}
+use Rattle.ac_rows.specs.Blocks.{Block}
 use Rattle.ac_rows.specs.declared.groups.Known.{Known}
 use Rattle.ac_rows.specs.Filled.{listed, latest_in}
 use Rattle.ac_rows.specs.Known.{known_of, after, is_begun}

@@ -1,4 +1,5 @@
 pub mod BlockSound
+pub mod Bounds
 pub mod Deciding
 pub mod HeadSound
 pub mod Later

@@ -10,7 +10,7 @@ use Rattle.ac_codec.specs.declared.refused.Refused.{Refused}
 use Rattle.ac_codec.specs.declared.refused.Refused.TheVariants.{Reserved, ShortBlock, Dither, Delta, NoReuse}
 use Rattle.ac_codec.specs.declared.refused.Row.TheVariants.{Cplstre, Cplinu, Chincpl, Cplendf, Cplcoe, Rematstr, Cplexpstr, Chexpstr, Lfeexpstr, Chbwcod, Baie, Snroffste, Cplleake}
 use Rattle.ac_codec.specs.Codec.{Codec, field, any, below, reused, flag, test, one_where, zero_where, absent, given, slot, pair, shaped, fitted, each, cons_then, free}
-use Rattle.ac_rows.specs.declared.block.Block.{Block}
+use Rattle.ac_rows.specs.Blocks.{Block}
 use Rattle.ac_rows.specs.declared.head.Head.{Head}
 use Rattle.ac_rows.specs.declared.groups.Start.{Start}
 use Rattle.ac_rows.specs.declared.groups.Strategy.{Strategy}
@@ -367,3 +367,10 @@ pub record CodesFit (c : Coupling) (k : Codes) : Type 0 where
   pub used : 0 < number k.cplexpstr → is_some c.range ≡ true
   pub kinds : (i : ℕ) → i < 5 → slice_index k.chexpstr i ≤ 3
   pub widths : (i : ℕ) → i < 5 → number (entry k.chbwcod i) ≤ 60
+
+-- cplbegf and cplendf are there both or not at all, and as a range they have a subband
+pub record PairFits (cplbegf cplendf : Option ℕ) : Type 0 where
+  pub both : is_some cplbegf ≡ is_some cplendf
+  pub begin : number cplbegf ≤ 15
+  pub end : number cplendf ≤ 15
+  pub some : number cplbegf ≤ number cplendf + 2

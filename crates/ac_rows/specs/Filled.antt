@@ -6,7 +6,7 @@ use Rattle.std.specs.Option.{option_or, ForSome}
 use Rattle.ac_base.specs.declared.spans.Span.{Span}
 use Rattle.ac_base.specs.declared.spans.Lead.TheVariants.{Free}
 use Rattle.ac_base.specs.Shape.{full_of, is_stereo, subbands, rematrix_bands, full_span, next_span, low_span, end_of, coupling_start}
-use Rattle.ac_rows.specs.declared.block.Block.{Block}
+use Rattle.ac_rows.specs.Blocks.{Block}
 use Rattle.ac_rows.specs.declared.head.Head.{Head}
 use Rattle.ac_rows.specs.declared.groups.Strategy.{Strategy}
 use Rattle.ac_rows.specs.declared.groups.Coupling.{Coupling}

@@ -1,5 +1,7 @@
 -- A block by groups of its fields.
-use Rattle.ac_rows.specs.declared.block.Block.{Block}
+use Rattle.std.specs.Prelude.{List}
+use Rattle.ac_rows.specs.Blocks.{Block}
+use Rattle.ac_rows.specs.declared.block.Block as rows
 use Rattle.ac_rows.specs.declared.groups.Start.{Start}
 use Rattle.ac_rows.specs.declared.groups.Strategy.{Strategy}
 use Rattle.ac_rows.specs.declared.groups.Shared.{Shared}
@@ -47,9 +49,9 @@ allocation_of b = record {
 abbrev pub rest_of : Block → Rest
 rest_of b = record { deltbaie = b.deltbaie; skiple = b.skiple; skipl = b.skipl }
 
--- and back
-abbrev pub block_of : Start → Strategy → Shared → Codes → Exponents → Allocation → Rest → Block
-block_of a b c d e f g = record {
+-- and back, whatever the numbers of coordinates are
+abbrev pub block_with : {C : Type 0} → Start → Strategy → Shared → Codes → Exponents → Allocation → Rest → List (List C) → List (List C) → rows.Block C
+block_with a b c d e f g exps mants = record {
   blksw = a.blksw;
   dithflag = a.dithflag;
   dynrnge = a.dynrnge;
@@ -63,8 +65,8 @@ block_of a b c d e f g = record {
   cplbndstrc = b.cplbndstrc;
   cplcoe = c.cplcoe;
   mstrcplco = c.mstrcplco;
-  cplcoexp = c.cplcoexp;
-  cplcomant = c.cplcomant;
+  cplcoexp = exps;
+  cplcomant = mants;
   phsflg = c.phsflg;
   rematstr = d.rematstr;
   rematflg = d.rematflg;
@@ -97,3 +99,6 @@ block_of a b c d e f g = record {
   skiple = g.skiple;
   skipl = g.skipl;
 }
+
+abbrev pub block_of : Start → Strategy → Shared → Codes → Exponents → Allocation → Rest → Block
+block_of a b c d e f g = block_with a b c d e f g c.cplcoexp c.cplcomant

@@ -1,4 +1,5 @@
 pub mod BlockRows
+pub mod Blocks
 pub mod Filled
 pub mod Groups
 pub mod HeadRows

@@ -1,11 +1,14 @@
 use ac_expo::Spelled;
+use std::alloc::AllocError;
 
 /// The fields of a block before its mantissas, by their names in A/52 5.3.3. A field that is there only in some blocks is
 /// an Option. Arrays of 5 go by full channel, arrays of 18 by band or subband, arrays of 4 by rematrix band; entries that
 /// stand for none are None, 0 or false. An exponent and the groups beside it are one field. The skip bytes are free and
 /// are no field.
-#[derive(Clone, Copy, Debug, PartialEq, Eq)]
-pub struct Block {
+///
+/// A coordinate's number is an `Option<u8>` in every call of these crates; it is a parameter so that a block can be made
+/// in one place, for whichever type.
+pub struct Block<C: Copy = Option<u8>> {
     /// Whether the transform is short, which this profile refuses (A/52 5.4.3.1).
     pub blksw: [bool; 5],
     /// Whether mantissas of no bits are dithered, which this profile refuses (A/52 5.4.3.2).
@@ -33,9 +36,9 @@ pub struct Block {
     /// The range of a channel's coordinates, 2 bits (A/52 5.4.3.15).
     pub mstrcplco: [Option<u8>; 5],
     /// The exponent of the coordinate of each band, 4 bits (A/52 5.4.3.16).
-    pub cplcoexp: [[Option<u8>; 18]; 5],
+    pub cplcoexp: [[C; 18]; 5],
     /// The mantissa of the coordinate of each band, 4 bits (A/52 5.4.3.17).
-    pub cplcomant: [[Option<u8>; 18]; 5],
+    pub cplcomant: [[C; 18]; 5],
     /// Whether the right channel is turned in a band (A/52 5.4.3.18).
     pub phsflg: [Option<bool>; 18],
     /// Whether the rematrix flags are sent, where there are two channels (A/52 5.4.3.19).
@@ -99,3 +102,11 @@ pub struct Block {
     /// The number of skip bytes, 9 bits (A/52 5.4.3.57).
     pub skipl: Option<u16>,
 }
+
+impl<C: Copy> Clone for Block<C> {
+    fn clone(&self) -> Result<Self, AllocError> {
+        Ok(*self)
+    }
+}
+
+impl<C: Copy> Copy for Block<C> {}

@@ -4,9 +4,11 @@
 
 mod allocation;
 mod block;
+mod block_reading;
 mod codes;
 mod channels;
 mod exponent;
+mod joining;
 mod known;
 mod optional;
 mod reuse;
@@ -25,3 +27,4 @@ pub use block::Block;
 pub use head::Head;
 pub use head_reading::read_head;
 pub use head_writing::write_head;
+pub use block_reading::read_block;

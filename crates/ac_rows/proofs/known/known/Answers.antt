@@ -1,6 +1,6 @@
 use Rattle.std.proofs.Common.{◌≡◌, ◌++◌, ◌∷◌, ◌+◌, [], ◌∙◌, ap, sym, List, take, get_or, length, arith}
 use Rattle.std.proofs.lemmas.List.{take_more}
-use Rattle.ac_rows.specs.declared.block.Block.{Block}
+use Rattle.ac_rows.specs.Blocks.{Block}
 use Rattle.ac_rows.specs.declared.groups.Known.{Known}
 use Rattle.ac_rows.specs.Known.{known_of, after}
 use Rattle.ac_rows.proofs.Later.{known_more}
