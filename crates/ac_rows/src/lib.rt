@@ -28,3 +28,7 @@ pub use head::Head;
 pub use head_reading::read_head;
 pub use head_writing::write_head;
 pub use block_reading::read_block;
+pub use channels::{full_channels, stereo};
+pub use groups::{Coupling, Strategy};
+pub use known::{coupling_of, over};
+pub use optional::{both, holds, number};

@@ -1,6 +1,6 @@
 -- What is kept one block later.
 use Rattle.std.proofs.Common.{◌≡◌, List, [], ◌∷◌, ◌++◌, refl}
-use Rattle.ac_rows.specs.declared.block.Block.{Block}
+use Rattle.ac_rows.specs.Blocks.{Block}
 use Rattle.ac_rows.specs.Filled.{listed}
 use Rattle.ac_rows.proofs.Later.{latest_more}
 use Rattle.ac_syntax.specs.Latest.{over, latest_block}

@@ -1,4 +1,11 @@
-//! The fields of a frame (A/52 5.3, 5.4): read, written, and filled by what earlier blocks of the frame sent.
+//! The fields of a frame up to its mantissas (A/52 5.3, 5.4): read and written field by field, and each block filled by what
+//! earlier blocks of its frame sent, with the bins of its coded channels.
 #![tactic(auto)]
 
+mod filling;
 mod latest;
+mod spans;
+
+pub use ac_rows::{Block, Head, read_block, read_head, write_head};
+pub use filling::filled;
+pub use spans::spans;

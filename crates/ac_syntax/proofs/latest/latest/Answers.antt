@@ -1,6 +1,6 @@
 use Rattle.std.proofs.Common.{◌≡◌, ◌++◌, ◌∷◌, ◌+◌, [], ◌∙◌, ap, sym, List, take, get_or, length, arith}
 use Rattle.std.proofs.lemmas.List.{take_more}
-use Rattle.ac_rows.specs.declared.block.Block.{Block}
+use Rattle.ac_rows.specs.Blocks.{Block}
 use Rattle.ac_syntax.specs.Latest.{over, latest_block}
 use Rattle.ac_syntax.proofs.Later.{latest_block_more}
 use Rattle.ac_syntax.proofs.latest.latest.Goals as goal
