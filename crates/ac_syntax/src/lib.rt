@@ -2,10 +2,10 @@
 //! earlier blocks of its frame sent, with the bins of its coded channels.
 #![tactic(auto)]
 
+mod bins;
 mod filling;
 mod latest;
-mod spans;
 
 pub use ac_rows::{Block, Head, read_block, read_head, write_head};
+pub use bins::spans;
 pub use filling::filled;
-pub use spans::spans;
