@@ -134,3 +134,8 @@ latest_pair h before (b ∷ bs) k =
 pub known_pair : (h : Head) (bs : List Block) → AreLawful h bs → PairFits (known_of bs).strategy.cplbegf (known_of bs).strategy.cplendf
 unfolding known_of
 known_pair h bs k = latest_pair h [] bs k
+
+-- the other way round
+pub some_from : (o : Option ℕ) (n m : ℕ) → n < m → number o ≤ n → ForSome o (λ v. v < m)
+some_from None n m lt h v e = absurd cc
+some_from (Some w) n m lt h v e = let same : w ≡ v = cc in omega (arith, same, h, lt)

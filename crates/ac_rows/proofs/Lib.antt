@@ -1,8 +1,10 @@
 pub mod BlockSound
 pub mod Bounds
 pub mod Deciding
+pub mod EachBits
 pub mod HeadSound
 pub mod Later
 pub mod Listed
 pub mod Pairs
 pub mod SpelledSound
+pub mod ZippedBits

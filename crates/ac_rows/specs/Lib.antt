@@ -1,3 +1,4 @@
+pub mod Bits
 pub mod BlockRows
 pub mod Blocks
 pub mod Filled

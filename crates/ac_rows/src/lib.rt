@@ -3,9 +3,11 @@
 #![tactic(auto)]
 
 mod allocation;
+mod allocation_writing;
 mod block;
 mod block_reading;
 mod codes;
+mod codes_writing;
 mod channels;
 mod exponent;
 mod joining;
@@ -15,7 +17,9 @@ mod reuse;
 mod shared;
 mod span;
 mod start;
+mod start_writing;
 mod strategy;
+mod strategy_writing;
 mod exponents;
 mod groups;
 mod head;
