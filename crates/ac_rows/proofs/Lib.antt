@@ -8,3 +8,4 @@ pub mod Listed
 pub mod Pairs
 pub mod SpelledSound
 pub mod ZippedBits
+pub mod ZippedLawful

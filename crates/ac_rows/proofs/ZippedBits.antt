@@ -8,7 +8,7 @@ use Rattle.ac_rows.specs.BlockRows.{zipped, offset_each, coordinate_each, altern
 use Rattle.ac_rows.specs.Bits.{offset_bits, coordinate_bits}
 use Rattle.ac_rows.proofs.EachBits.{each_bits}
 
-length-zipped : {A B : Type 0} (xs : List A) (ys : List B) → length (zipped xs ys) ≤ length xs
+pub length-zipped : {A B : Type 0} (xs : List A) (ys : List B) → length (zipped xs ys) ≤ length xs
 length-zipped [] ys = omega arith
 length-zipped (x ∷ xs) [] = omega arith
 length-zipped (x ∷ xs) (y ∷ ys) = let h = length-zipped xs ys in omega arith
@@ -24,7 +24,7 @@ take-zipped (suc n) [] ys = refl
 take-zipped (suc n) (x ∷ xs) [] = refl
 take-zipped (suc n) (x ∷ xs) (y ∷ ys) = ap (λ l. (x, y) ∷ l) (take-zipped n xs ys)
 
-get-zipped : {A B : Type 0} (i : ℕ) (xs : List A) (ys : List B) (d : A) (e : B) → i < length xs → i < length ys → get_or (zipped xs ys) i (d, e) ≡ (get_or xs i d, get_or ys i e)
+pub get-zipped : {A B : Type 0} (i : ℕ) (xs : List A) (ys : List B) (d : A) (e : B) → i < length xs → i < length ys → get_or (zipped xs ys) i (d, e) ≡ (get_or xs i d, get_or ys i e)
 get-zipped i [] ys d e h k = absurd (omega arith)
 get-zipped i (x ∷ xs) [] d e h k = absurd (omega arith)
 get-zipped zero (x ∷ xs) (y ∷ ys) d e h k = refl
