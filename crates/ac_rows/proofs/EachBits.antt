@@ -14,3 +14,7 @@ each_bits (suc n) i c f (x ∷ xs) h le = rw (h i x, each_bits n (suc i) c f xs 
 pub joined_bits : (n : ℕ) (xs : List (Option Bool)) → length xs ≡ 18 → (joined_each n).spell xs ≡ spelled_each (some_spell (λ b. b ∷ [])) xs
 unfolding joined_each given test
 joined_bits n xs h = each_bits 18 0 _ (some_spell (λ b. b ∷ [])) xs (λ k x. refl) (omega (arith, h))
+
+pub phases_bits : (n : ℕ) (xs : List (Option Bool)) → length xs ≡ 18 → (phase_each n).spell xs ≡ spelled_each (some_spell (λ b. b ∷ [])) xs
+unfolding phase_each given test
+phases_bits n xs h = each_bits 18 0 _ (some_spell (λ b. b ∷ [])) xs (λ k x. refl) (omega (arith, h))

@@ -3,6 +3,7 @@ pub mod Bounds
 pub mod Deciding
 pub mod EachBits
 pub mod HeadSound
+pub mod JoinedChannels
 pub mod Later
 pub mod Listed
 pub mod Pairs

@@ -63,3 +63,9 @@ offsets_bits full xs ys h = each_bits 5 0 _ offset_bits (zipped xs ys) (λ k x. 
 pub coordinates_bits : (bands : ℕ) (xs ys : List (Option ℕ)) → length xs ≡ 18 → (coordinate_each bands).spell (xs, ys) ≡ spelled_each coordinate_bits (zipped xs ys)
 unfolding coordinate_each alternating fitted pair given field
 coordinates_bits bands xs ys h = each_bits 18 0 _ coordinate_bits (zipped xs ys) (λ k x. refl) (omega (arith, h, length-zipped xs ys))
+
+-- a place that is there has no need of a default
+pub get_or_any : {X : Type 0} (xs : List X) (i : ℕ) (d e : X) → i < length xs → get_or xs i d ≡ get_or xs i e
+get_or_any [] i d e h = absurd (omega arith)
+get_or_any (x ∷ xs) zero d e h = refl
+get_or_any (x ∷ xs) (suc i) d e h = get_or_any xs i d e (omega arith)

@@ -24,7 +24,7 @@ use Rattle.ac_rows.proofs.EachBits.{each_bits}
 use Rattle.ac_rows.proofs.SpelledSound.{groups_row_lawful}
 use Rattle.ac_rows.proofs.ZippedBits.{length-zipped, get-zipped}
 
-each_length : {A : Type 0} (n i : ℕ) (c : ℕ → Codec A) (xs : List A) → (each n i c).Lawful xs → length xs ≡ n
+pub each_length : {A : Type 0} (n i : ℕ) (c : ℕ → Codec A) (xs : List A) → (each n i c).Lawful xs → length xs ≡ n
 unfolding each cons absent
 each_length zero i c xs h = ap length h
 each_length (suc n) i c [] h = absurd h

@@ -19,7 +19,9 @@ use Rattle.ac_rows.specs.declared.groups.Known.{Known}
 use Rattle.ac_rows.specs.Filled.{entry, latest_strategy, coupling_of}
 use Rattle.ac_rows.specs.Spelled.{spelling_bits}
 use Rattle.ac_rows.specs.Known.{known_of}
-use Rattle.ac_rows.specs.BlockRows.{zipped, strategy, channel_shared, shared, codes, exponents, allocation}
+use Rattle.ac_rows.specs.BlockRows.{zipped, start, strategy, channel_shared, shared, codes, exponents, allocation, rest, block_rows}
+use Rattle.ac_rows.specs.Blocks.{Block}
+use Rattle.ac_rows.specs.Groups.{start_of, strategy_of, shared_of, codes_of, exponents_of, allocation_of, rest_of}
 
 -- nothing is known, and coupling isn't in use
 abbrev pub nothing : Known
@@ -82,3 +84,12 @@ coordinate_bits p = some_spell (λ v. bits v 4) p.0 ++ some_spell (λ v. bits v 
 -- a channel's fine offset and fast gain
 abbrev pub offset_bits : Option ℕ × Option ℕ → List Bool
 offset_bits p = some_spell (λ v. bits v 4) p.0 ++ some_spell (λ v. bits v 3) p.1
+
+-- the bits of all groups of a block
+abbrev pub block_bits : ℕ → Block → List Bool
+block_bits full b =
+    (start full).spell (start_of b) ++ (strategy_bits (strategy_of b) ++ (shared_bits (shared_of b) ++ (codes_bits full (codes_of b)
+    ++ (exponents_bits (exponents_of b) ++ (allocation_bits (allocation_of b) ++ rest.spell (rest_of b))))))
+
+abbrev pub BlockIsLawful : ℕ → Block → Type 0
+BlockIsLawful full b = (stereo : Bool) × (low : Bool) × (known : Known) × (block_rows full stereo low known).Lawful b
