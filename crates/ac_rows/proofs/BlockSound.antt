@@ -1,11 +1,9 @@
 -- The fields of a block are sound.
-use Rattle.std.proofs.Common.{◌≡◌, ℕ, zero, suc, ◌+◌, ◌<◌, ◌&&◌, ◌||◌, Bool, true, false, List, [], ◌∷◌, length, Option, Some, None, nat_lt, refl, ap, ap₂, sym, ◌∙◌, arith}
-use Rattle.ac_base.specs.declared.spans.Span.{Span}
+use Rattle.std.proofs.Common.{◌≡◌, ℕ, zero, suc, ◌&&◌, ◌||◌, Bool, List, [], ◌∷◌, length, Option, nat_lt, refl, ap, ap₂, arith}
 use Rattle.ac_codec.specs.declared.refused.Refused.{Refused}
-use Rattle.ac_codec.specs.declared.refused.Row.{Row}
 use Rattle.ac_codec.specs.declared.refused.Refused.TheVariants.{Reserved}
 use Rattle.ac_codec.specs.declared.refused.Row.TheVariants.{Chincpl}
-use Rattle.ac_codec.specs.Codec.{Codec, field, any, flag, test, zero_where, absent, given, slot, pair, shaped, fitted, each, cons_then, free}
+use Rattle.ac_codec.specs.Codec.{Codec, test, zero_where, given, free}
 use Rattle.ac_codec.proofs.Sound.{Sound, field_sound, test_sound, absent_sound, pair_sound, shaped_sound, fitted_sound, given_sound, slot_sound, each_sound, cons_then_sound, free_sound}
 use Rattle.ac_rows.specs.Blocks.{Block}
 use Rattle.ac_rows.specs.declared.head.Head.{Head}
@@ -15,7 +13,6 @@ use Rattle.ac_rows.specs.declared.groups.Coupling.{Coupling}
 use Rattle.ac_rows.specs.declared.groups.Codes.{Codes}
 use Rattle.ac_rows.specs.declared.groups.Known.{Known}
 use Rattle.ac_rows.specs.Filled.{holds}
-use Rattle.ac_rows.specs.Spelled.{spelled_row}
 use Rattle.ac_rows.specs.BlockRows.{clear_each, start, start_to, start_from, coupled_each, joined_each, strategy, strategy_to, strategy_from, firsts, seconds, zipped, alternating, coordinate_each, channel_to, channel_from, channel_shared, shared_each, coes, masters, coordinate_exps, coordinate_mants, joined_channels, phase_each, shared_to, shared_from, SharedFits, shared, rematrix_each, strategy_each, width_each, codes, codes_to, codes_from, exponents_each, exponents, exponents_to, exponents_from, offset_each, parameters, offsets, leaks, allocation, allocation_to, allocation_from, rest, rest_to, rest_from, block_rows, groups_to, groups_from, block_fields, whole_block, skip_bits}
 use Rattle.ac_rows.proofs.Pairs.{zipped_firsts, zipped_seconds}
 use Rattle.ac_rows.proofs.SpelledSound.{spelled_row_sound}

@@ -1,13 +1,11 @@
 -- Lawful values are within the bounds that bins are made of.
-use Rattle.std.proofs.Common.{◌≡◌, ℕ, zero, suc, ◌+◌, ◌<◌, ◌≤◌, ◌^◌, ◌&&◌, Bool, true, false, List, [], ◌∷◌, ◌++◌, length, get_or, slice_index, Option, Some, None, Result, Ok, Err, nat_lt, refl, ap, sym, subst, ◌∙◌, arith}
+use Rattle.std.proofs.Common.{◌≡◌, ℕ, zero, suc, ◌+◌, ◌<◌, ◌≤◌, ◌^◌, Bool, true, false, List, [], ◌∷◌, ◌++◌, get_or, slice_index, Option, Some, None, nat_lt, refl, sym, subst, ◌∙◌, arith}
 use Rattle.std.specs.Prelude.{is_some, if◌then◌else◌}
 use Rattle.std.specs.Option.{ForSome, option_or}
 use Rattle.std.proofs.Common.{inl, inr}
 use Rattle.std.proofs.lemmas.Bool.{cases_lt, le-ltb, lt-ltb}
-use Rattle.ac_codec.specs.declared.refused.Refused.{Refused}
 use Rattle.ac_codec.specs.declared.refused.Row.TheVariants.{Chexpstr, Chbwcod, Cplexpstr}
-use Rattle.ac_codec.specs.Codec.{Codec, field, any, below, reused, given, slot, SlotLawful, pair, shaped, each, cons, absent}
-use Rattle.ac_codec.proofs.Sound.{Sound}
+use Rattle.ac_codec.specs.Codec.{Codec, field, below, reused, given, slot, SlotLawful, pair, shaped, each, cons, absent}
 use Rattle.ac_rows.specs.Blocks.{Block}
 use Rattle.ac_rows.specs.declared.head.Head.{Head}
 use Rattle.ac_rows.specs.declared.groups.Strategy.{Strategy}
@@ -15,10 +13,9 @@ use Rattle.ac_rows.specs.declared.groups.Coupling.{Coupling}
 use Rattle.ac_rows.specs.declared.groups.Codes.{Codes}
 use Rattle.ac_rows.specs.declared.groups.Known.{Known}
 use Rattle.ac_rows.specs.Groups.{strategy_of}
-use Rattle.ac_rows.specs.Filled.{holds, number, entry, latest_in, over, range_of, coupling_of}
+use Rattle.ac_rows.specs.Filled.{holds, number, entry, latest_in}
 use Rattle.ac_rows.specs.Known.{known_of, may_keep_channel, may_keep_shared}
 use Rattle.ac_rows.specs.BlockRows.{no_less, strategy, strategy_each, width_each, has_width, codes, block_rows, block_fields, coupling_now, HasSubbands, CodesFit, PairFits, AreLawfulAfter, AreLawful}
-use Rattle.ac_rows.proofs.BlockSound.{strategy_sound, codes_sound}
 
 -- ---- entries of rows
 pub each_at : {A : Type 0} (n i : ℕ) (c : ℕ → Codec A) (xs : List A) → (each n i c).Lawful xs → (k : ℕ) (d : A) → k < n → (c (i + k)).Lawful (get_or xs k d)
@@ -42,9 +39,9 @@ some_below (Some v) n h = h v refl
 -- ---- a coupling range
 no_less_from : (a b : ℕ) → no_less a b ≡ None → a ≤ b + 2
 no_less_from a b e = elim (cases_lt (b + 2) a) [
-    | inl lt ↦ let g = rw (lt-ltb (b + 2) a lt) at e in absurd cc
-    | inr le ↦ le
-  ]
+  | inl lt ↦ let g = rw (lt-ltb (b + 2) a lt) at e in absurd cc
+  | inr le ↦ le
+]
 
 pair_from : (there : Bool) (a b : Option ℕ) → (is_some a ≡ there) → ForSome a (λ v. v < 2 ^ 4) → (is_some b ≡ there) → ForSome b (λ v. (v < 2 ^ 4) × (no_less (number a) v ≡ None)) → PairFits a b
 pair_from there None None e h f k = record { both = refl; begin = omega arith; end = omega arith; some = omega arith }
@@ -95,9 +92,9 @@ kind_at full known c xs h i lt = slot_below (nat_lt i full) (may_keep_channel kn
 
 below_from : (v : ℕ) → below 61 Chbwcod v ≡ None → v ≤ 60
 below_from v e = elim (cases_lt v 61) [
-    | inl lt ↦ omega (arith, lt)
-    | inr le ↦ let g = rw (le-ltb v 61 le) at e in absurd cc
-  ]
+  | inl lt ↦ omega (arith, lt)
+  | inr le ↦ let g = rw (le-ltb v 61 le) at e in absurd cc
+]
 
 width_at : (full : ℕ) (c : Coupling) (chexpstr : List ℕ) (xs : List (Option ℕ)) → (width_each full c chexpstr).Lawful xs → (i : ℕ) → i < 5 → number (entry xs i) ≤ 60
 unfolding width_each given field

@@ -1,6 +1,6 @@
 -- The bits of lists of rows, one after the other.
-use Rattle.std.proofs.Common.{◌≡◌, Option, ℕ, zero, suc, ◌<◌, ◌≤◌, Bool, List, [], ◌∷◌, ◌++◌, length, refl, ap, sym, ◌∙◌, arith}
-use Rattle.ac_codec.specs.Codec.{Codec, each, cons, absent, flag, given, test, some_spell}
+use Rattle.std.proofs.Common.{◌≡◌, Option, ℕ, zero, suc, ◌≤◌, Bool, List, [], ◌∷◌, length, refl, arith}
+use Rattle.ac_codec.specs.Codec.{Codec, each, cons, absent, given, test, some_spell}
 use Rattle.ac_codec.specs.Lists.{spelled_each}
 use Rattle.ac_rows.specs.BlockRows.{joined_each, phase_each}
 

@@ -1,14 +1,14 @@
 -- The coordinates of channels by four lists.
-use Rattle.std.proofs.Common.{◌≡◌, ℕ, zero, suc, ◌+◌, ◌<◌, ◌≤◌, ◌^◌, Bool, Option, Some, None, List, [], ◌∷◌, ◌++◌, length, take, get_or, refl, ap, sym, subst, ◌∙◌, arith}
+use Rattle.std.proofs.Common.{◌≡◌, ℕ, zero, suc, ◌+◌, ◌<◌, ◌≤◌, ◌^◌, Bool, Option, None, List, [], ◌∷◌, ◌++◌, length, take, get_or, refl, ap, sym, subst, ◌∙◌, arith}
 use Rattle.std.specs.Option.{ForSome}
-use Rattle.ac_codec.specs.Codec.{Codec, each, pair, shaped, given, field, test, fitted, some_spell, cons, absent}
+use Rattle.ac_codec.specs.Codec.{Codec, each, pair, shaped, given, field, test, fitted, cons, absent}
 use Rattle.ac_codec.specs.Lists.{spelled_each}
 use Rattle.ac_codec.proofs.Spelling.{spelled_each-more, next_fits}
 use Rattle.ac_rows.specs.declared.groups.ChannelShared.{ChannelShared}
 use Rattle.ac_rows.specs.declared.groups.Shared.{Shared}
 use Rattle.ac_rows.specs.declared.groups.Coupling.{Coupling}
 use Rattle.ac_rows.specs.declared.groups.Known.{Known}
-use Rattle.ac_rows.specs.Filled.{entry, holds, channel_coupled}
+use Rattle.ac_rows.specs.Filled.{entry, channel_coupled}
 use Rattle.ac_rows.specs.Known.{may_keep_coordinates}
 use Rattle.ac_rows.specs.BlockRows.{joined_channels, channel_shared, shared_each, shared, coordinate_each, alternating, phase_each, SharedFits}
 use Rattle.ac_rows.specs.Bits.{channel_bits, shared_bits, nothing, uncoupled}

@@ -1,10 +1,9 @@
 -- What is known one block later.
-use Rattle.std.proofs.Common.{◌≡◌, ℕ, zero, suc, ◌+◌, ◌<◌, ◌||◌, Bool, true, false, List, [], ◌∷◌, ◌++◌, length, Option, Some, None, refl, ap, ap₂, sym, ◌∙◌, arith, append_assoc}
+use Rattle.std.proofs.Common.{◌≡◌, ◌||◌, Bool, true, false, List, [], ◌∷◌, ◌++◌, Option, Some, None, refl, ap, sym, ◌∙◌, append_assoc}
 use Rattle.std.specs.List.{list_any}
 use Rattle.std.specs.Option.{option_or}
 use Rattle.std.proofs.lemmas.List.{append-nil}
 use Rattle.ac_rows.specs.Blocks.{Block}
-use Rattle.ac_rows.specs.declared.groups.Known.{Known}
 use Rattle.ac_rows.specs.Filled.{listed, latest_in}
 use Rattle.ac_rows.specs.Known.{known_of, after, is_begun}
 

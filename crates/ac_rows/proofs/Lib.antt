@@ -1,3 +1,4 @@
+pub mod BlockBits
 pub mod BlockSound
 pub mod Bounds
 pub mod Deciding

@@ -1,8 +1,8 @@
 -- Loops over two rows that alternate.
-use Rattle.std.proofs.Common.{◌≡◌, ℕ, zero, suc, ◌+◌, ◌<◌, List, [], ◌∷◌, ◌++◌, length, take, set, nat_lt, Bool, Option, Result, Ok, Err, refl, ap, sym, ◌∙◌, arith}
+use Rattle.std.proofs.Common.{◌≡◌, ℕ, ◌+◌, ◌<◌, List, [], ◌∷◌, ◌++◌, length, take, set, nat_lt, Bool, Option, Ok, Err, refl, ap, sym, ◌∙◌, arith}
 use Rattle.std.proofs.lemmas.List.{take_more_set, length-take-le}
 use Rattle.ac_codec.specs.declared.refused.Refused.{Refused}
-use Rattle.ac_codec.specs.Codec.{Codec, Outcome, ◌>>=◌, field, any, given, pair, fitted, each}
+use Rattle.ac_codec.specs.Codec.{Codec, field, any, given, pair, fitted, each}
 use Rattle.ac_rows.specs.BlockRows.{firsts, seconds, zipped, alternating, coordinate_each}
 
 abbrev pub two : ℕ → ℕ → Codec (Option ℕ × Option ℕ)

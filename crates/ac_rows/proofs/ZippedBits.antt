@@ -1,9 +1,8 @@
 -- Loops that write two rows that alternate.
-use Rattle.std.proofs.Common.{◌≡◌, ℕ, zero, suc, ◌+◌, ◌<◌, ◌≤◌, Bool, Option, List, [], ◌∷◌, ◌++◌, length, take, drop, get_or, refl, ap, ap₂, sym, ◌∙◌, arith, length-append}
-use Rattle.std.proofs.lemmas.List.{take_more, length-take-le}
-use Rattle.ac_codec.specs.Codec.{each, given, field, pair, fitted, some_spell}
+use Rattle.std.proofs.Common.{◌≡◌, ℕ, zero, suc, ◌+◌, ◌<◌, ◌≤◌, Bool, Option, List, [], ◌∷◌, ◌++◌, length, take, get_or, refl, ap, ◌∙◌, arith}
+use Rattle.ac_codec.specs.Codec.{given, field, pair, fitted}
 use Rattle.ac_codec.specs.Lists.{spelled_each}
-use Rattle.ac_codec.proofs.Spelling.{spelled_each-append, spelled_each-more, next_fits}
+use Rattle.ac_codec.proofs.Spelling.{spelled_each-more, next_fits}
 use Rattle.ac_rows.specs.BlockRows.{zipped, offset_each, coordinate_each, alternating}
 use Rattle.ac_rows.specs.Bits.{offset_bits, coordinate_bits}
 use Rattle.ac_rows.proofs.EachBits.{each_bits}

@@ -1,6 +1,5 @@
 -- Lawful rows that alternate, entry by entry.
-use Rattle.std.proofs.Common.{◌≡◌, ℕ, zero, suc, ◌+◌, ◌<◌, ◌≤◌, ◌^◌, Bool, Option, Some, None, List, [], ◌∷◌, ◌++◌, length, get_or, nat_lt, slice_index, refl, ap, sym, subst, ◌∙◌, arith}
-use Rattle.std.specs.List.{All}
+use Rattle.std.proofs.Common.{◌≡◌, ℕ, zero, suc, ◌+◌, ◌<◌, ◌^◌, Bool, Option, Some, None, List, [], ◌∷◌, ◌++◌, length, get_or, nat_lt, slice_index, refl, ap, subst, arith}
 use Rattle.ac_bits.specs.Bits.{bits}
 use Rattle.std.specs.Option.{ForSome}
 use Rattle.ac_codec.specs.Codec.{Codec, each, cons, absent, given, field, any, pair, shaped, fitted, single, some_spell}
@@ -15,7 +14,7 @@ use Rattle.ac_rows.specs.declared.groups.Codes.{Codes}
 use Rattle.ac_rows.specs.declared.groups.Exponents.{Exponents}
 use Rattle.ac_rows.specs.declared.groups.Known.{Known}
 use Rattle.ac_rows.specs.declared.groups.Allocation.{Allocation}
-use Rattle.ac_rows.specs.Filled.{entry, number, holds}
+use Rattle.ac_rows.specs.Filled.{entry, number}
 use Rattle.ac_rows.specs.Spelled.{groups_row, spelled_row, spelling_bits}
 use Rattle.ac_rows.specs.BlockRows.{zipped, alternating, offset_each, coordinate_each, exponents_each, exponents, sent_span, allocation, parameters, offsets, leaks}
 use Rattle.ac_rows.specs.Bits.{SpellingFits, exponent_bits, exponents_bits, ExponentsFit}

@@ -1,13 +1,12 @@
 -- The bits of groups of fields. Which fields are there shows in their values, so the bits of a group don't depend on what is known
 -- of the blocks before, nor on the coupling that holds: each is taken here at the first block of a frame.
-use Rattle.std.specs.Prelude.{ℕ, ◌<◌, ◌^◌, Bool, true, false, List, [], ◌++◌, Option, Some, None}
+use Rattle.std.specs.Prelude.{ℕ, ◌<◌, ◌^◌, Bool, false, List, [], ◌++◌, Option}
 use Rattle.std.specs.List.{All}
 use Rattle.std.specs.Option.{ForSome}
 use Rattle.ac_bits.specs.Bits.{bits}
 use Rattle.ac_expo.specs.Spelling.{Spelling}
 use Rattle.ac_codec.specs.Codec.{some_spell}
 use Rattle.ac_codec.specs.Lists.{spelled_each}
-use Rattle.ac_rows.specs.declared.groups.Start.{Start}
 use Rattle.ac_rows.specs.declared.groups.Strategy.{Strategy}
 use Rattle.ac_rows.specs.declared.groups.Coupling.{Coupling}
 use Rattle.ac_rows.specs.declared.groups.ChannelShared.{ChannelShared}
@@ -19,7 +18,7 @@ use Rattle.ac_rows.specs.declared.groups.Known.{Known}
 use Rattle.ac_rows.specs.Filled.{entry, latest_strategy, coupling_of}
 use Rattle.ac_rows.specs.Spelled.{spelling_bits}
 use Rattle.ac_rows.specs.Known.{known_of}
-use Rattle.ac_rows.specs.BlockRows.{zipped, start, strategy, channel_shared, shared, codes, exponents, allocation, rest, block_rows}
+use Rattle.ac_rows.specs.BlockRows.{zipped, start, strategy, channel_shared, shared, codes, allocation, rest, block_rows}
 use Rattle.ac_rows.specs.Blocks.{Block}
 use Rattle.ac_rows.specs.Groups.{start_of, strategy_of, shared_of, codes_of, exponents_of, allocation_of, rest_of}
 

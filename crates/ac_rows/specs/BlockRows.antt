@@ -2,7 +2,7 @@
 -- acmod and lfeon of the head, from the fields before, from the coupling that holds in the block, and from nothing else; what
 -- earlier blocks gave is asked for only by fields that are refused where there is nothing to reuse.
 use Rattle.std.specs.Option.{ForSome}
-use Rattle.std.specs.Prelude.{◌≡◌, ◌<◌, ◌≤◌, ℕ, zero, suc, ◌+◌, ◌*◌, ◌==◌, ◌&&◌, ◌||◌, not, Bool, true, false, nat_lt, nat_le, is_some, if◌then◌else◌, List, [], ◌∷◌, ◌++◌, length, Option, Some, None, slice_index}
+use Rattle.std.specs.Prelude.{◌≡◌, ◌<◌, ◌≤◌, ℕ, zero, suc, ◌+◌, ◌*◌, ◌&&◌, ◌||◌, not, Bool, true, false, nat_lt, nat_le, is_some, if◌then◌else◌, List, [], ◌∷◌, ◌++◌, length, Option, Some, None, slice_index}
 use Rattle.ac_base.specs.declared.spans.Span.{Span}
 use Rattle.ac_base.specs.Shape.{full_of, is_stereo, subbands, rematrix_bands, full_span, next_span, low_span, count_of}
 use Rattle.ac_expo.specs.Spelling.{Spelling}
@@ -269,11 +269,24 @@ leaks known c =
 
 abbrev pub allocation_to : ParameterFields × (OffsetFields × LeakFields) → Allocation
 allocation_to p = record {
-    baie = p.0.0; sdcycod = p.0.1.0; fdcycod = p.0.1.1.0; sgaincod = p.0.1.1.1.0; dbpbcod = p.0.1.1.1.1.0; floorcod = p.0.1.1.1.1.1;
-    snroffste = p.1.0.0; csnroffst = p.1.0.1.0; cplfsnroffst = p.1.0.1.1.0; cplfgaincod = p.1.0.1.1.1.0; fsnroffst = p.1.0.1.1.1.1.0.0; fgaincod = p.1.0.1.1.1.1.0.1;
-    lfefsnroffst = p.1.0.1.1.1.1.1.0; lfefgaincod = p.1.0.1.1.1.1.1.1;
-    cplleake = p.1.1.0; cplfleak = p.1.1.1.0; cplsleak = p.1.1.1.1;
-  }
+  baie = p.0.0;
+  sdcycod = p.0.1.0;
+  fdcycod = p.0.1.1.0;
+  sgaincod = p.0.1.1.1.0;
+  dbpbcod = p.0.1.1.1.1.0;
+  floorcod = p.0.1.1.1.1.1;
+  snroffste = p.1.0.0;
+  csnroffst = p.1.0.1.0;
+  cplfsnroffst = p.1.0.1.1.0;
+  cplfgaincod = p.1.0.1.1.1.0;
+  fsnroffst = p.1.0.1.1.1.1.0.0;
+  fgaincod = p.1.0.1.1.1.1.0.1;
+  lfefsnroffst = p.1.0.1.1.1.1.1.0;
+  lfefgaincod = p.1.0.1.1.1.1.1.1;
+  cplleake = p.1.1.0;
+  cplfleak = p.1.1.1.0;
+  cplsleak = p.1.1.1.1;
+}
 
 abbrev pub parameters_of : Allocation → ParameterFields
 parameters_of x = (x.baie, (x.sdcycod, (x.fdcycod, (x.sgaincod, (x.dbpbcod, x.floorcod)))))

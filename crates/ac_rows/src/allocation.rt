@@ -6,7 +6,9 @@ ghost use Rattle.ac_rows.specs.BlockRows.{offset_each, parameters, offsets, leak
 use crate::groups::{Allocation, Coupling, Known, Rest};
 use crate::optional::{both, count_where, holds};
 use ac_bits::BitSource;
-use ac_codec::read::{bit, bit_one_where, bit_zero_where, optional, optional_wide, optional_zero_where};
+use ac_codec::read::{
+    bit, bit_one_where, bit_zero_where, optional, optional_wide, optional_zero_where,
+};
 use ac_codec::{Refused, Row};
 
 /// The fine offset and the fast gain of each full channel.

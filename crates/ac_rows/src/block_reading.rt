@@ -65,11 +65,7 @@ pub(crate) fn skipped(skipl: Option<u16>) -> u32
 }
 
 /// All fields of a block.
-fn read_fields(
-    head: &Head,
-    earlier: &[Block],
-    source: &mut BitSource,
-) -> Result<Block, Refused>
+fn read_fields(head: &Head, earlier: &[Block], source: &mut BitSource) -> Result<Block, Refused>
     requires channels { head.now.acmod ≤ 7 }
     requires earlier { AreLawful head.now earlier.now }
     ensures { Gives result source.new ((block_fields head.now earlier.now).read source.old) }
@@ -81,11 +77,7 @@ fn read_fields(
 
 /// All fields of a block and its skip bytes.
 #[tactic(auto, unfolding(crate::specs::BlockRows::whole_block, ac_codec::specs::Codec::pair))]
-fn read_whole(
-    head: &Head,
-    earlier: &[Block],
-    source: &mut BitSource,
-) -> Result<Block, Refused>
+fn read_whole(head: &Head, earlier: &[Block], source: &mut BitSource) -> Result<Block, Refused>
     requires channels { head.now.acmod ≤ 7 }
     requires earlier { AreLawful head.now earlier.now }
     ensures { GivesPart (λ x. x.0) result source.new ((whole_block head.now earlier.now).read source.old) }
@@ -102,11 +94,7 @@ fn read_whole(
 ///
 /// The refusal of the first field, in the order of the bits, that no lawful block has there. The source then stands where
 /// that field began.
-pub fn read_block(
-    head: &Head,
-    earlier: &[Block],
-    source: &mut BitSource,
-) -> Result<Block, Refused>
+pub fn read_block(head: &Head, earlier: &[Block], source: &mut BitSource) -> Result<Block, Refused>
     requires head { head_fields.Lawful head.now }
     requires earlier { AreLawful head.now earlier.now }
     requires count { length earlier.now ≤ 5 }

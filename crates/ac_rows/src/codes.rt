@@ -12,7 +12,9 @@ use crate::groups::{Codes, Coupling, Known};
 use crate::optional::{both, count_where, holds};
 use crate::reuse::{may_keep_channel, may_keep_shared};
 use ac_bits::BitSource;
-use ac_codec::read::{optional_bit, optional_limited, optional_reusing, optional_zero_where, slot_reusing};
+use ac_codec::read::{
+    optional_bit, optional_limited, optional_reusing, optional_zero_where, slot_reusing,
+};
 use ac_codec::{Refused, Row};
 
 /// The number of rematrix bands, by cplbegf under coupling (A/52 7.5.2).

@@ -57,7 +57,11 @@ fn span_of(c: &Coupling, chbwcod: &[Option<u8>; 5], i: u8) -> Span
     ensures bound { IsSpan result }
     ensures full { 3 ≤ greatest_kind result.lead }
 {
-    let range = if c.coupled[usize::from(i)] { c.range } else { None };
+    let range = if c.coupled[usize::from(i)] {
+        c.range
+    } else {
+        None
+    };
     full_span(range, number(chbwcod[usize::from(i)]))
 }
 

@@ -126,14 +126,22 @@ fn bands_given(c: &Coupling, b: &Block, i: usize) -> Option<usize>
     requires { i < 5 }
     ensures { result ≡ bands_given c.now b.now i }
 {
-    if holds(b.cplcoe[i]) { Some(c.bands) } else { None }
+    if holds(b.cplcoe[i]) {
+        Some(c.bands)
+    } else {
+        None
+    }
 }
 
 /// The range for which a block sends exponents of the coupling channel.
 fn range_sent(c: &Coupling, b: &Block) -> Option<(u8, u8)>
     ensures { result ≡ range_sent c.now b.now }
 {
-    if number(b.cplexpstr) == 0 { None } else { c.range }
+    if number(b.cplexpstr) == 0 {
+        None
+    } else {
+        c.range
+    }
 }
 
 /// The end up to which a block sends exponents of a full channel.

@@ -108,7 +108,10 @@ pub fn read_shared(source: &mut BitSource, known: &Known, c: &Coupling) -> Resul
         cplcomant: mants_4,
     } = read_own(source, known, c, 4)?;
     let later = either(holds(coe_3), either(holds(coe_4), false));
-    let some = either(holds(coe_0), either(holds(coe_1), either(holds(coe_2), later)));
+    let some = either(
+        holds(coe_0),
+        either(holds(coe_1), either(holds(coe_2), later)),
+    );
     let phsflg = read_phases(source, count_where(both(c.phases, some), c.bands))?;
     Ok(Shared {
         cplcoe: [coe_0, coe_1, coe_2, coe_3, coe_4],

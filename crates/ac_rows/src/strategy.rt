@@ -13,11 +13,7 @@ use ac_codec::{Refused, Row};
 
 /// chincpl of each channel: one at least is 1.
 #[tactic(auto, unfolding(crate::specs::BlockRows::coupled_each, ac_codec::specs::Codec::cons_then, ac_codec::specs::Codec::absent))]
-fn read_coupled(
-    source: &mut BitSource,
-    sent: bool,
-    full: u8,
-) -> Result<[Option<bool>; 5], Refused>
+fn read_coupled(source: &mut BitSource, sent: bool, full: u8) -> Result<[Option<bool>; 5], Refused>
     ensures { Gives result source.new ((coupled_each 5 0 sent full false).read source.old) }
 {
     let none = Refused::Reserved(Row::Chincpl);
@@ -93,8 +89,7 @@ pub fn read_strategy(
     ensures { Gives result source.new ((strategy full stereo begun).read source.old) }
 {
     let cplstre = bit_zero_where(source, begun, Refused::NoReuse(Row::Cplstre))?;
-    let cplinu =
-        optional_one_where(source, cplstre, 1 < full, Refused::Reserved(Row::Cplinu))?;
+    let cplinu = optional_one_where(source, cplstre, 1 < full, Refused::Reserved(Row::Cplinu))?;
     let sent = holds(cplinu);
     let chincpl = read_coupled(source, sent, full)?;
     let phsflginu = optional_bit(source, both(sent, stereo))?;

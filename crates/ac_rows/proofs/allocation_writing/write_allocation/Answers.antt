@@ -1,4 +1,3 @@
-use Rattle.std.proofs.Common.{◌≡◌}
 use Rattle.ac_bits.proofs.Laws.{appends-then}
 use Rattle.ac_codec.specs.Codec.{field, pair, shaped, given, test, fitted, each, cons, absent}
 use Rattle.ac_rows.specs.BlockRows.{allocation, parameters, offsets, leaks, offset_each, alternating}

@@ -1,4 +1,3 @@
-use Rattle.std.proofs.Common.{◌≡◌}
 use Rattle.ac_rows.proofs.ZippedBits.{offsets_bits}
 use Rattle.ac_rows.proofs.allocation_writing.write_offsets.Goals as goal
 

@@ -1,4 +1,3 @@
-use Rattle.std.proofs.Common.{◌≡◌}
 use Rattle.ac_rows.specs.BlockRows.{block_fields}
 use Rattle.ac_rows.proofs.Bounds.{known_pair}
 use Rattle.ac_rows.proofs.block_reading.read_fields.Goals as goal

@@ -1,4 +1,4 @@
-use Rattle.std.proofs.Common.{◌≡◌, sym, subst}
+use Rattle.std.proofs.Common.{sym, subst}
 use Rattle.ac_rows.specs.declared.groups.Coupling.{Coupling}
 use Rattle.ac_rows.specs.BlockRows.{HasSubbands}
 use Rattle.ac_rows.proofs.BlockSound.{strategy_sound, codes_sound}

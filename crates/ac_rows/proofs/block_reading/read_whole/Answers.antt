@@ -1,4 +1,4 @@
-use Rattle.std.proofs.Common.{◌≡◌, refl}
+use Rattle.std.proofs.Common.{refl}
 use Rattle.ac_rows.specs.BlockRows.{whole_block}
 use Rattle.ac_codec.specs.Codec.{pair}
 use Rattle.ac_rows.proofs.block_reading.read_whole.Goals as goal

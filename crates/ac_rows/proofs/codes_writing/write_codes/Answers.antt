@@ -1,6 +1,5 @@
-use Rattle.std.proofs.Common.{◌≡◌, ◌<◌, ◌≤◌, ℕ, arith}
+use Rattle.std.proofs.Common.{arith}
 use Rattle.ac_rows.specs.Groups.{codes_of}
-use Rattle.ac_rows.specs.BlockRows.{CodesFit}
 use Rattle.ac_rows.proofs.Bounds.{codes_fit, some_from}
 use Rattle.ac_rows.proofs.codes_writing.write_codes.Goals as goal
 

@@ -1,8 +1,8 @@
-use Rattle.std.proofs.Common.{◌≡◌, ℕ, ◌<◌, List, Option, length, length-set, take, nat_lt, arith, ap, sym, ◌∙◌, Ok}
+use Rattle.std.proofs.Common.{◌≡◌, ℕ, ◌<◌, Option, length, length-set, take, nat_lt, arith, sym, ◌∙◌}
 use Rattle.std.proofs.lemmas.List.{take_all}
 use Rattle.std.proofs.lemmas.Result.{err_from_is_err_and}
 use Rattle.ac_codec.specs.Codec.{Codec, field, any, given, each}
-use Rattle.ac_codec.proofs.Loops.{goes_on, ends, is_done, front_then}
+use Rattle.ac_codec.proofs.Loops.{goes_on, ends, is_done}
 use Rattle.ac_rows.specs.BlockRows.{zipped}
 use Rattle.ac_rows.proofs.Pairs.{two, zipped_set, two_read, two_first, two_second, coordinates_ok, coordinates_err}
 use Rattle.ac_rows.proofs.shared.read_pairs.Goals as goal

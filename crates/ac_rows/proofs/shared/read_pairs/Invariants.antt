@@ -1,5 +1,5 @@
-use Rattle.std.proofs.Common.{◌≡◌, ◌-◌, take, nat_lt, length}
-use Rattle.ac_codec.specs.Codec.{field, any, given, pair, each}
+use Rattle.std.proofs.Common.{◌≡◌, ◌-◌, take, length}
+use Rattle.ac_codec.specs.Codec.{each}
 use Rattle.ac_codec.proofs.Loops.{front_then}
 use Rattle.ac_rows.specs.BlockRows.{zipped}
 use Rattle.ac_rows.proofs.Pairs.{two}

@@ -1,4 +1,4 @@
-use Rattle.std.proofs.Common.{◌≡◌, ◌+◌, ◌<◌, ◌≤◌, ◌++◌, ◌∙◌, ap, sym, subst, ℕ, length, take, arith, length-append}
+use Rattle.std.proofs.Common.{◌+◌, ◌∙◌, ap, sym, subst, length, take, arith, length-append}
 use Rattle.ac_bits.specs.Bits.{Appends}
 use Rattle.ac_bits.proofs.Laws.{appends-then}
 use Rattle.ac_codec.specs.Lists.{spelled_each}

@@ -1,4 +1,3 @@
-use Rattle.std.proofs.Common.{◌≡◌}
 use Rattle.ac_rows.proofs.ZippedBits.{coordinates_bits}
 use Rattle.ac_rows.proofs.shared_writing.write_coordinates.Goals as goal
 

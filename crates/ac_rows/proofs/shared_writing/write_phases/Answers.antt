@@ -1,4 +1,3 @@
-use Rattle.std.proofs.Common.{◌≡◌, arith}
 use Rattle.ac_rows.proofs.EachBits.{phases_bits}
 use Rattle.ac_rows.proofs.shared_writing.write_phases.Goals as goal
 

@@ -1,10 +1,10 @@
-use Rattle.std.proofs.Common.{◌≡◌, ◌+◌, ◌≤◌, ◌++◌, ◌∙◌, ap, sym, subst, length, arith, length-append}
+use Rattle.std.proofs.Common.{ap, sym, subst, length, arith, length-append}
 use Rattle.ac_bits.specs.Bits.{Appends}
 use Rattle.ac_bits.proofs.Laws.{appends-then}
 use Rattle.ac_codec.specs.Lists.{spelled_each}
 use Rattle.ac_rows.specs.Groups.{shared_of}
 use Rattle.ac_rows.specs.BlockRows.{joined_channels, phase_each}
-use Rattle.ac_rows.specs.Bits.{channel_bits, shared_bits, nothing, uncoupled}
+use Rattle.ac_rows.specs.Bits.{channel_bits, nothing, uncoupled}
 use Rattle.ac_rows.proofs.JoinedChannels.{shared_parts, shared_spelled}
 use Rattle.ac_rows.proofs.shared_writing.write_shared.Goals as goal
 

@@ -1,4 +1,4 @@
-use Rattle.std.proofs.Common.{◌≡◌, ◌+◌, Option, Some, None, arith}
+use Rattle.std.proofs.Common.{◌≡◌, ◌+◌, Some, None, arith}
 use Rattle.std.proofs.lemmas.Bool.{le-ltb, lt-ltb}
 use Rattle.ac_codec.specs.declared.refused.Refused.TheVariants.{Reserved}
 use Rattle.ac_codec.specs.declared.refused.Row.TheVariants.{Cplendf}

@@ -1,4 +1,3 @@
-use Rattle.std.proofs.Common.{◌≡◌, arith}
 use Rattle.ac_rows.proofs.EachBits.{joined_bits}
 use Rattle.ac_rows.proofs.strategy_writing.write_joined.Goals as goal
 

@@ -1,4 +1,3 @@
-use Rattle.std.proofs.Common.{◌≡◌, ◌<◌}
 use Rattle.ac_codec.specs.Codec.{pair, shaped, field, given}
 use Rattle.ac_rows.specs.BlockRows.{strategy}
 use Rattle.ac_rows.proofs.strategy_writing.write_strategy.Goals as goal
