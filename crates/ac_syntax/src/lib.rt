@@ -6,6 +6,7 @@ mod bins;
 mod filling;
 mod latest;
 
-pub use ac_rows::{Block, Head, read_block, read_head, write_head};
+pub use ac_codec::{Refused, Row};
+pub use ac_rows::{Block, Head, read_block, read_head, write_block, write_head};
 pub use bins::spans;
 pub use filling::filled;
