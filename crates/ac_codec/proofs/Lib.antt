@@ -1,3 +1,4 @@
+pub mod Faithful
 pub mod Lengths
 pub mod Loops
 pub mod Reading

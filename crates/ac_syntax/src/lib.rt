@@ -4,9 +4,11 @@
 
 mod bins;
 mod filling;
+mod laws;
 mod latest;
 
 pub use ac_codec::{Refused, Row};
 pub use ac_rows::{Block, Head, read_block, read_head, write_block, write_head};
 pub use bins::spans;
 pub use filling::filled;
+pub use laws::syntax_laws;
