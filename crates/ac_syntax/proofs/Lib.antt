@@ -1,2 +1,3 @@
 pub mod Later
 pub mod Whole
+pub mod Counted

@@ -3,7 +3,7 @@ use Rattle.std.proofs.Common.{◌≡◌, List, refl}
 use Rattle.ac_rows.specs.Blocks.{Block}
 use Rattle.ac_rows.specs.declared.head.Head.{Head}
 use Rattle.ac_rows.specs.Groups.{strategy_of}
-use Rattle.ac_rows.specs.Filled.{listed, over, latest_strategy, coupling_of, coupling_in, filled_of}
+use Rattle.ac_rows.specs.Filled.{listed, over, latest_strategy, coupling_in, filled_of}
 use Rattle.ac_syntax.specs.Filling.{filled_by}
 use Rattle.ac_syntax.specs.Latest.{latest_block}
 

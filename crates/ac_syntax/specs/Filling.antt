@@ -1,5 +1,5 @@
 -- A filled block from what earlier blocks have last: this project's own way to it.
-use Rattle.std.specs.Prelude.{ℕ, Bool, ◌&&◌, nat_lt, nat_le, is_some, if◌then◌else◌, List, [], Option, Some, None, slice_index_or}
+use Rattle.std.specs.Prelude.{Bool, ◌&&◌, nat_lt, nat_le, is_some, if◌then◌else◌, [], Option, Some, None, slice_index_or}
 use Rattle.std.specs.Option.{option_or}
 use Rattle.ac_base.specs.Shape.{full_of, is_stereo, subbands, rematrix_bands}
 use Rattle.ac_rows.specs.Blocks.{Block}

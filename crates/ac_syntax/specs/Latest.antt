@@ -1,5 +1,5 @@
 -- The latest value of each field that may be reused (A/52 5.4.3), as one block: what none of the blocks has is not there.
-use Rattle.std.specs.Prelude.{ℕ, List, Option, slice_index_or, []}
+use Rattle.std.specs.Prelude.{List, slice_index_or, []}
 use Rattle.std.specs.Option.{option_or}
 use Rattle.ac_rows.specs.Blocks.{Block}
 use Rattle.ac_rows.specs.Filled.{entry, listed, latest}

@@ -11,5 +11,4 @@ ghost use Rattle.ac_rows.specs.BlockRows.{whole_block};
 pub fn syntax_laws()
     ensures head { IsFaithful whole_head }
     ensures block { (h : Head) (earlier : List Block) → IsFaithful (whole_block h earlier) }
-{
-}
+{}

@@ -1,8 +1,8 @@
-use Rattle.std.proofs.Common.{◌≡◌, ◌∙◌, ap, rules}
+use Rattle.std.proofs.Common.{◌≡◌, ◌∙◌, ap}
 use Rattle.ac_rows.specs.Blocks.{Block}
 use Rattle.ac_rows.specs.Groups.{strategy_of}
 use Rattle.ac_rows.specs.declared.groups.Coupling.{Coupling}
-use Rattle.ac_rows.specs.Filled.{over, coupling_of, coupling_in, filled_of}
+use Rattle.ac_rows.specs.Filled.{over, coupling_of, coupling_in}
 use Rattle.ac_syntax.specs.Filling.{filled_by}
 use Rattle.ac_syntax.specs.Latest.{latest_block}
 use Rattle.ac_syntax.proofs.Whole.{strategy_kept, filled_is}

@@ -1,8 +1,7 @@
-use Rattle.std.proofs.Common.{◌≡◌, ◌∙◌, ap, Some, None}
-use Rattle.std.specs.Prelude.{◌&&◌, nat_lt, nat_le, if◌then◌else◌}
+use Rattle.std.proofs.Common.{◌∙◌, ap, Some, None}
+use Rattle.std.specs.Prelude.{◌&&◌, nat_lt, if◌then◌else◌}
 use Rattle.std.specs.Option.{option_or}
 use Rattle.ac_rows.specs.Filled.{entry, holds, listed}
-use Rattle.ac_syntax.specs.Filling.{or_if}
 use Rattle.ac_syntax.proofs.filling.phase_flags.Goals as goal
 
 pub returns : goal.returns

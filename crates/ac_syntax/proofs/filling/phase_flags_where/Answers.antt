@@ -1,8 +1,7 @@
-use Rattle.std.proofs.Common.{◌≡◌, ◌<◌, ◌≤◌, ℕ, Some, None, arith}
-use Rattle.std.specs.Prelude.{◌&&◌, nat_lt, nat_le, if◌then◌else◌}
+use Rattle.std.proofs.Common.{Some, None, arith}
+use Rattle.std.specs.Prelude.{◌&&◌, nat_lt, if◌then◌else◌}
 use Rattle.std.specs.Option.{option_or}
 use Rattle.ac_rows.specs.Filled.{entry, holds}
-use Rattle.ac_syntax.specs.Filling.{or_if}
 use Rattle.ac_rows.proofs.Listed.{is_listed}
 use Rattle.ac_syntax.proofs.filling.phase_flags_where.Goals as goal
 

@@ -1,8 +1,7 @@
 use Rattle.std.proofs.Common.{◌≡◌, ◌<◌, ℕ, length, get_or, Some, None}
-use Rattle.std.specs.Prelude.{◌&&◌, nat_lt, nat_le, if◌then◌else◌}
+use Rattle.std.specs.Prelude.{◌&&◌, nat_lt, if◌then◌else◌}
 use Rattle.std.specs.Option.{option_or}
 use Rattle.ac_rows.specs.Filled.{entry, holds}
-use Rattle.ac_syntax.specs.Filling.{or_if}
 use Rattle.ac_syntax.proofs.filling.phase_flags_where.Given as goal
 
 abbrev pub invariant-loop-j : goal.invariant-loop-j

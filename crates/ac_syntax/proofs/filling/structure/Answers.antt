@@ -1,7 +1,6 @@
-use Rattle.std.proofs.Common.{◌≡◌, ◌∙◌, ap, Some, None}
-use Rattle.std.specs.Prelude.{◌&&◌, nat_lt, nat_le, if◌then◌else◌}
-use Rattle.std.specs.Option.{option_or}
-use Rattle.ac_rows.specs.Filled.{entry, holds, listed}
+use Rattle.std.proofs.Common.{◌∙◌, ap}
+use Rattle.std.specs.Prelude.{◌&&◌, nat_lt, nat_le}
+use Rattle.ac_rows.specs.Filled.{entry, listed}
 use Rattle.ac_syntax.specs.Filling.{or_if}
 use Rattle.ac_syntax.proofs.filling.structure.Goals as goal
 

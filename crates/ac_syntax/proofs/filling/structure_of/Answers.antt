@@ -1,7 +1,6 @@
-use Rattle.std.proofs.Common.{◌≡◌, ◌<◌, ◌≤◌, ℕ, Some, None, arith}
-use Rattle.std.specs.Prelude.{◌&&◌, nat_lt, nat_le, if◌then◌else◌}
-use Rattle.std.specs.Option.{option_or}
-use Rattle.ac_rows.specs.Filled.{entry, holds}
+use Rattle.std.proofs.Common.{None, arith}
+use Rattle.std.specs.Prelude.{◌&&◌, nat_lt, nat_le}
+use Rattle.ac_rows.specs.Filled.{entry}
 use Rattle.ac_syntax.specs.Filling.{or_if}
 use Rattle.ac_rows.proofs.Listed.{is_listed}
 use Rattle.ac_syntax.proofs.filling.structure_of.Goals as goal

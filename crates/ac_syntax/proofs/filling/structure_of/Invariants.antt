@@ -1,7 +1,6 @@
-use Rattle.std.proofs.Common.{◌≡◌, ◌<◌, ℕ, length, get_or, Some, None}
-use Rattle.std.specs.Prelude.{◌&&◌, nat_lt, nat_le, if◌then◌else◌}
-use Rattle.std.specs.Option.{option_or}
-use Rattle.ac_rows.specs.Filled.{entry, holds}
+use Rattle.std.proofs.Common.{◌≡◌, ◌<◌, ℕ, length, get_or, None}
+use Rattle.std.specs.Prelude.{◌&&◌, nat_lt, nat_le}
+use Rattle.ac_rows.specs.Filled.{entry}
 use Rattle.ac_syntax.specs.Filling.{or_if}
 use Rattle.ac_syntax.proofs.filling.structure_of.Given as goal
 

@@ -1,4 +1,4 @@
-use Rattle.std.proofs.Common.{◌≡◌, ◌<◌, ◌≤◌, ℕ, None, arith}
+use Rattle.std.proofs.Common.{None, arith}
 use Rattle.std.specs.Option.{option_or}
 use Rattle.ac_rows.specs.Filled.{entry}
 use Rattle.ac_rows.proofs.Listed.{is_listed}

@@ -1,4 +1,4 @@
-use Rattle.std.proofs.Common.{◌≡◌, ◌++◌, ◌∷◌, ◌+◌, [], ◌∙◌, ap, sym, List, take, get_or, length, arith}
+use Rattle.std.proofs.Common.{◌≡◌, ◌++◌, ◌∷◌, ◌+◌, [], ◌∙◌, ap, sym, List, take}
 use Rattle.std.proofs.lemmas.List.{take_more}
 use Rattle.ac_rows.specs.Blocks.{Block}
 use Rattle.ac_syntax.specs.Latest.{over, latest_block}
