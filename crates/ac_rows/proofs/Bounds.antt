@@ -63,7 +63,7 @@ over_pair None (Some b) p q h k = let g : false ≡ true = h.both in absurd cc
 over_pair (Some a) None p q h k = let g : true ≡ false = h.both in absurd cc
 over_pair (Some a) (Some b) p q h k = h
 
-range_in : (there : Bool) (a b : Option ℕ) → PairFits a b → HasSubbands (if there then Some (number a, number b) else None)
+pub range_in : (there : Bool) (a b : Option ℕ) → PairFits a b → HasSubbands (if there then Some (number a, number b) else None)
 range_in true a b h p e =
     let same : (number a, number b) ≡ p = cc in
     subst (λ (x : ℕ × ℕ). (x.0 ≤ 15) × (x.1 ≤ 15) × (x.0 ≤ x.1 + 2)) same (h.begin, h.end, h.some)
@@ -117,11 +117,11 @@ codes_fit full stereo low known c k h =
     }
 
 -- ---- and of all blocks before
-block_pair : (h : Head) (before : List Block) (b : Block) → (block_fields h before).Lawful b → PairFits b.cplbegf b.cplendf
+pub block_pair : (h : Head) (before : List Block) (b : Block) → (block_fields h before).Lawful b → PairFits b.cplbegf b.cplendf
 unfolding block_fields block_rows shaped pair
 block_pair h before b k = strategy_pair _ _ _ (strategy_of b) k.1.0
 
-latest_pair : (h : Head) (before bs : List Block) → AreLawfulAfter h before bs → PairFits (latest_in (λ _ b. b.cplbegf) before bs) (latest_in (λ _ b. b.cplendf) before bs)
+pub latest_pair : (h : Head) (before bs : List Block) → AreLawfulAfter h before bs → PairFits (latest_in (λ _ b. b.cplbegf) before bs) (latest_in (λ _ b. b.cplendf) before bs)
 unfolding latest_in
 latest_pair h before [] k = record { both = refl; begin = omega arith; end = omega arith; some = omega arith }
 latest_pair h before (b ∷ bs) k =

@@ -3,6 +3,7 @@ pub mod BlockSound
 pub mod Bounds
 pub mod Deciding
 pub mod EachBits
+pub mod FilledSpans
 pub mod HeadSound
 pub mod JoinedChannels
 pub mod Later
