@@ -1,3 +1,4 @@
 pub mod Later
 pub mod Whole
 pub mod Counted
+pub mod Widths
