@@ -1,7 +1,7 @@
 -- Heads and blocks as this encoder fills them, which is this project's profile: no optional field of the head, no dynamic range
 -- word, all full channels coupled or none, each subband a band, no phase flags; block 0 sends all, a later block keeps all but the
 -- exponents. Their rows have the widths of `side_bits`.
-use Rattle.std.specs.Prelude.{◌≡◌, ℕ, ◌+◌, ◌<◌, Bool, true, false, is_some, List, [], length, sum, Option, Some, None}
+use Rattle.std.specs.Prelude.{◌≡◌, ℕ, ◌+◌, ◌<◌, ◌&&◌, Bool, true, false, nat_lt, is_some, List, [], length, sum, Option, Some, None}
 use Rattle.std.specs.Option.{ForSome}
 use Rattle.ac_bits.specs.Bits.{bits}
 use Rattle.ac_base.specs.Shape.{full_of}
@@ -29,7 +29,7 @@ pub record IsSent (h : Head) (couple : Option (ℕ × ℕ)) (earlier : List Bloc
   pub dynrnge : b.dynrnge ≡ false
   pub skiple : b.skiple ≡ false
   pub range : (coupling_in earlier b).range ≡ couple
-  pub coupled : (i : ℕ) → i < full_of h.acmod → channel_coupled (coupling_in earlier b) i ≡ is_some couple
+  pub coupled : (i : ℕ) → i < 5 → channel_coupled (coupling_in earlier b) i ≡ (nat_lt i (full_of h.acmod) && is_some couple)
 
 -- block 0 sends each subband as a band, and no phase flags
 pub record IsFirstSent (h : Head) (couple : Option (ℕ × ℕ)) (b : Block) : Type 0 where
