@@ -3,3 +3,5 @@ pub mod Whole
 pub mod Counted
 pub mod Widths
 pub mod GroupWidths
+pub mod SideLaws
+pub mod SideSums
