@@ -1,8 +1,8 @@
 -- Sound fields are faithful.
-use Rattle.std.proofs.Common.{◌≡◌, ◌⊎◌, inl, inr, Bool, List, ◌++◌, Result, Ok, Err, refl, ap, sym, ◌∙◌}
+use Rattle.std.proofs.Common.{◌≡◌, ◌⊎◌, inl, inr, Bool, List, ◌++◌, Ok, Err, refl, sym, ◌∙◌}
 use Rattle.ac_codec.specs.declared.refused.Refused.{Refused}
 use Rattle.ac_codec.specs.Codec.{Codec, Outcome}
-use Rattle.ac_codec.specs.Meaning.{HasOneMeaning, ReadsBack, IsDecided, IsNeverBoth, HasOneRefusal, IsFaithful}
+use Rattle.ac_codec.specs.Meaning.{IsNeverBoth, HasOneRefusal, IsFaithful}
 use Rattle.ac_codec.proofs.Sound.{Sound, one_value, err_pair}
 
 decided_by : {A : Type 0} (c : Codec A) → Sound c → (l : List Bool) (o : Outcome A) → c.read l ≡ o → ((a : A) × (rest : List Bool) × (c.Lawful a × (l ≡ c.spell a ++ rest))) ⊎ ((e : Refused) × (at : List Bool) × c.Refuses l e at)
@@ -20,9 +20,9 @@ one_refusal {A} c s l d e at there h k = err_pair {A = A} d e at there (sym (s.r
 
 pub faithful : {A : Type 0} (c : Codec A) → Sound c → IsFaithful c
 faithful c s = record {
-    meaning = one_value c s;
-    back = s.only;
-    decided = λ l. decided_by c s l (c.read l) refl;
-    apart = never_both c s;
-    refusal = one_refusal c s;
-  }
+  meaning = one_value c s;
+  back = s.only;
+  decided = λ l. decided_by c s l (c.read l) refl;
+  apart = never_both c s;
+  refusal = one_refusal c s;
+}

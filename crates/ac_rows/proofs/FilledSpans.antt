@@ -1,7 +1,7 @@
 -- A lawful block that is filled has spans; and one block more of a frame.
-use Rattle.std.proofs.Common.{◌≡◌, ℕ, zero, suc, ◌+◌, ◌<◌, ◌≤◌, ◌&&◌, Bool, true, false, List, [], ◌∷◌, ◌++◌, length, get_or, slice_index, Option, Some, None, nat_lt, refl, ap, sym, subst, ◌∙◌, arith, append_assoc, inl, inr}
+use Rattle.std.proofs.Common.{◌≡◌, ℕ, zero, suc, ◌+◌, ◌<◌, ◌≤◌, Bool, true, false, List, [], ◌∷◌, ◌++◌, length, get_or, Option, Some, None, nat_lt, refl, ap, sym, subst, ◌∙◌, arith, append_assoc, inl, inr}
 use Rattle.std.specs.Prelude.{is_some, if◌then◌else◌}
-use Rattle.std.specs.Option.{ForSome, option_or}
+use Rattle.std.specs.Option.{option_or}
 use Rattle.std.proofs.lemmas.Bool.{cases_lt}
 use Rattle.std.proofs.lemmas.List.{append-nil, get_or_past}
 use Rattle.ac_base.specs.Shape.{full_of}
@@ -9,9 +9,8 @@ use Rattle.ac_rows.specs.Blocks.{Block}
 use Rattle.ac_rows.specs.declared.head.Head.{Head}
 use Rattle.ac_rows.specs.HeadRows.{head_fields}
 use Rattle.ac_rows.specs.Groups.{strategy_of, codes_of}
-use Rattle.ac_rows.specs.Filled.{holds, number, entry, listed, latest_in, latest, held, needed, range_of, is_coupled, channel_coupled, coupling_in, filled_of, HasSpans}
-use Rattle.ac_rows.specs.BlockRows.{block_fields, block_rows, codes, coupling_now, AreLawfulAfter, AreLawful, HasSubbands, PairFits}
-use Rattle.ac_rows.specs.Known.{known_of}
+use Rattle.ac_rows.specs.Filled.{holds, number, entry, listed, latest_in, latest, held, needed, range_of, channel_coupled, coupling_in, filled_of, HasSpans}
+use Rattle.ac_rows.specs.BlockRows.{block_fields, block_rows, AreLawfulAfter, AreLawful, HasSubbands, PairFits}
 use Rattle.ac_codec.specs.Codec.{pair, shaped}
 use Rattle.ac_rows.proofs.HeadSound.{head_channels}
 use Rattle.ac_rows.proofs.Bounds.{over_pair, block_pair, latest_pair, range_in, codes_fit}
@@ -61,14 +60,14 @@ width_of h earlier b i = if channel_coupled (coupling_in earlier b) i then None 
 filled_width : (h : Head) (earlier : List Block) (b : Block) → AreLawful h earlier → (block_fields h earlier).Lawful b → (i : ℕ) → number (entry (listed 5 0 (width_of h earlier b)) i) ≤ 60
 unfolding width_of
 filled_width h earlier b k l i = elim (cases_lt i 5) [
-    | inl lt ↦
-        let e = entry_listed 5 0 (width_of h earlier b) i None lt ∙ ap (width_of h earlier b) (omega arith) in
-        let s = if_small (channel_coupled (coupling_in earlier b) i) (nat_lt i (full_of h.acmod)) (entry b.chbwcod i) (latest (λ d. entry d.chbwcod i) earlier) 60 (block_width h earlier b l i lt) (latest_width h [] earlier i lt k) in
-        subst (λ (o : Option ℕ). number o ≤ 60) (sym e) s
-    | inr le ↦
-        let e : entry (listed 5 0 (width_of h earlier b)) i ≡ None = get_or_past (listed 5 0 (width_of h earlier b)) i None (omega (arith, le, length-listed 5 0 (width_of h earlier b))) in
-        subst (λ (o : Option ℕ). number o ≤ 60) (sym e) (omega arith)
-  ]
+  | inl lt ↦
+      let e = entry_listed 5 0 (width_of h earlier b) i None lt ∙ ap (width_of h earlier b) (omega arith) in
+      let s = if_small (channel_coupled (coupling_in earlier b) i) (nat_lt i (full_of h.acmod)) (entry b.chbwcod i) (latest (λ d. entry d.chbwcod i) earlier) 60 (block_width h earlier b l i lt) (latest_width h [] earlier i lt k) in
+      subst (λ (o : Option ℕ). number o ≤ 60) (sym e) s
+  | inr le ↦
+      let e : entry (listed 5 0 (width_of h earlier b)) i ≡ None = get_or_past (listed 5 0 (width_of h earlier b)) i None (omega (arith, le, length-listed 5 0 (width_of h earlier b))) in
+      subst (λ (o : Option ℕ). number o ≤ 60) (sym e) (omega arith)
+]
 
 filled_width_in : (h : Head) (earlier : List Block) (b : Block) → AreLawful h earlier → (block_fields h earlier).Lawful b → (i : ℕ) → number (entry (filled_of h earlier b).chbwcod i) ≤ 60
 unfolding filled_of width_of
@@ -89,7 +88,7 @@ filled_range h earlier b k l =
 pub filled_has_spans : (h : Head) (earlier : List Block) (b : Block) → head_fields.Lawful h → AreLawful h earlier → (block_fields h earlier).Lawful b → HasSpans h (filled_of h earlier b)
 unfolding filled_of
 filled_has_spans h earlier b head k l = record {
-    channels = head_channels h head;
-    free = λ i lt e. filled_width_in h earlier b k l i;
-    range = λ p e. let r = filled_range h earlier b k l p e in (r.0, r.1);
-  }
+  channels = head_channels h head;
+  free = λ i lt e. filled_width_in h earlier b k l i;
+  range = λ p e. let r = filled_range h earlier b k l p e in (r.0, r.1);
+}

@@ -1,13 +1,13 @@
 -- How many bits the groups of a block have.
-use Rattle.std.proofs.Common.{◌≡◌, ℕ, zero, suc, ◌+◌, ◌-◌, ◌*◌, ◌<◌, ◌≤◌, ◌&&◌, ◌||◌, Bool, true, false, List, [], ◌∷◌, ◌++◌, length, get_or, nat_lt, nat_le, Option, Some, None, refl, ap, ap₂, sym, subst, ◌∙◌, arith}
-use Rattle.std.specs.Prelude.{is_some, not, if◌then◌else◌}
+use Rattle.std.proofs.Common.{◌≡◌, ℕ, zero, suc, ◌+◌, ◌-◌, ◌*◌, ◌<◌, ◌≤◌, ◌&&◌, ◌||◌, Bool, true, false, List, [], ◌∷◌, length, nat_lt, nat_le, Option, Some, None, refl, ap, ap₂, sym, ◌∙◌, arith}
+use Rattle.std.specs.Prelude.{is_some, if◌then◌else◌}
 use Rattle.std.specs.Option.{ForSome}
 use Rattle.ac_bits.specs.Bits.{bits}
-use Rattle.ac_base.specs.Shape.{subbands, rematrix_bands}
+use Rattle.ac_base.specs.Shape.{rematrix_bands}
 use Rattle.ac_base.specs.SideBits.{when}
 use Rattle.ac_codec.specs.declared.refused.Refused.{Refused}
-use Rattle.ac_codec.specs.declared.refused.Refused.TheVariants.{Reserved, ShortBlock, Dither, NoReuse}
-use Rattle.ac_codec.specs.declared.refused.Row.TheVariants.{Chincpl, Cplcoe, Chexpstr, Chbwcod}
+use Rattle.ac_codec.specs.declared.refused.Refused.TheVariants.{ShortBlock, Dither, NoReuse}
+use Rattle.ac_codec.specs.declared.refused.Row.TheVariants.{Cplcoe, Chexpstr, Chbwcod}
 use Rattle.ac_codec.specs.Codec.{Codec, field, any, below, reused, flag, test, one_where, zero_where, given, slot, some_spell, each, cons, cons_then, absent, pair, shaped, fitted}
 use Rattle.ac_rows.specs.declared.groups.Start.{Start}
 use Rattle.ac_rows.specs.declared.groups.Strategy.{Strategy}
@@ -18,7 +18,7 @@ use Rattle.ac_rows.specs.declared.groups.Codes.{Codes}
 use Rattle.ac_rows.specs.declared.groups.Allocation.{Allocation}
 use Rattle.ac_rows.specs.declared.groups.Rest.{Rest}
 use Rattle.ac_rows.specs.declared.groups.Known.{Known}
-use Rattle.ac_rows.specs.Filled.{holds, number, entry, channel_coupled}
+use Rattle.ac_rows.specs.Filled.{holds, entry, channel_coupled}
 use Rattle.ac_rows.specs.Known.{may_keep_coordinates, may_keep_channel}
 use Rattle.ac_rows.specs.BlockRows.{clear_each, start, coupled_each, joined_each, sent_subbands, strategy, zipped, alternating, coordinate_each, channel_shared, shared_each, joined_channels, phase_each, shared, any_sent, rematrix_each, strategy_each, has_width, width_each, codes, offset_each, parameters, offsets, leaks, parameters_of, offsets_of, leaks_of, allocation, rest, PairFits}
 use Rattle.std.proofs.lemmas.Bool.{le-ltb}
@@ -97,12 +97,12 @@ offset_width full xs ys h l =
     (λ k x le lt a. l2 (some_spell (λ v. bits v 4) x.0) (some_spell (λ v. bits v 3) x.1) ∙ seven_of (nat_lt k full) x.0 x.1 a.0.0 a.1.0) l.1 ∙ full_total full 7 h
 
 -- a bit that has to be 1 unless it may be 0, and may not
-forced : (there : Bool) (r : Refused) (o : Option Bool) → is_some o ≡ there → ForSome o (λ b. zero_where false r b ≡ None) → holds o ≡ there
+pub forced : (there : Bool) (r : Refused) (o : Option Bool) → is_some o ≡ there → ForSome o (λ b. zero_where false r b ≡ None) → holds o ≡ there
 forced there r None e f = e
 forced there r (Some true) e f = e
 forced there r (Some false) e f = let g : zero_where false r false ≡ None = f false refl in absurd cc
 
-forced_bit : (r : Refused) (b : Bool) → zero_where false r b ≡ None → b ≡ true
+pub forced_bit : (r : Refused) (b : Bool) → zero_where false r b ≡ None → b ≡ true
 forced_bit r true e = refl
 forced_bit r false e = absurd cc
 
@@ -246,10 +246,10 @@ shared_first full used known c x h m t f p l =
     let js = joined_channels x.cplcoe x.mstrcplco x.cplcoexp x.cplcomant in
     let row : ℕ → Codec ChannelShared = λ i. channel_shared (channel_coupled c i) (may_keep_coordinates known c i) c.bands in
     let a = each_width 5 0 row (λ i. when (nat_lt i full && used) (3 + c.bands * 8)) js
-        (λ k y le lt q. channel_width (channel_coupled c k) (may_keep_coordinates known c k) c.bands y m q
-        ∙ (whole_width (channel_coupled c k) (holds y.cplcoe) c.bands (coe_forced (channel_coupled c k) (may_keep_coordinates known c k) c.bands y (f k (omega arith)) q)
-        ∙ ap (λ b. when b (3 + c.bands * 8)) (t k (omega arith)))) l.1.0
-        ∙ both_total full (3 + c.bands * 8) used h in
+    (λ k y le lt q. channel_width (channel_coupled c k) (may_keep_coordinates known c k) c.bands y m q
+    ∙ (whole_width (channel_coupled c k) (holds y.cplcoe) c.bands (coe_forced (channel_coupled c k) (may_keep_coordinates known c k) c.bands y (f k (omega arith)) q)
+    ∙ ap (λ b. when b (3 + c.bands * 8)) (t k (omega arith)))) l.1.0
+    ∙ both_total full (3 + c.bands * 8) used h in
     let none : (if c.phases && any_sent js then c.bands else 0) ≡ 0 = ap (λ b. if b && any_sent js then c.bands else 0) p in
     let b = phase_width (if c.phases && any_sent js then c.bands else 0) x.phsflg none l.1.1 in
     let s = l2 ((each 5 0 row).spell js) ((phase_each (if c.phases && any_sent js then c.bands else 0)).spell x.phsflg) in
@@ -281,7 +281,7 @@ shared_later full used known c x h m t e l =
     let js = joined_channels x.cplcoe x.mstrcplco x.cplcoexp x.cplcomant in
     let row : ℕ → Codec ChannelShared = λ i. channel_shared (channel_coupled c i) (may_keep_coordinates known c i) c.bands in
     let a = kept_width 5 0 known c js m e l.1.0
-        ∙ (same_total 5 0 (λ k. when (channel_coupled c k) 1) (λ k. when (nat_lt k full && used) 1) (λ k le lt. ap (λ b. when b 1) (t k (omega arith))) ∙ both_total full 1 used h) in
+    ∙ (same_total 5 0 (λ k. when (channel_coupled c k) 1) (λ k. when (nat_lt k full && used) 1) (λ k le lt. ap (λ b. when b 1) (t k (omega arith))) ∙ both_total full 1 used h) in
     let none : (if c.phases && any_sent js then c.bands else 0) ≡ 0 = no_phases c.phases (any_sent js) c.bands e in
     let b = phase_width (if c.phases && any_sent js then c.bands else 0) x.phsflg none l.1.1 in
     let s = l2 ((each 5 0 row).spell js) ((phase_each (if c.phases && any_sent js then c.bands else 0)).spell x.phsflg) in

@@ -5,3 +5,4 @@ pub mod Widths
 pub mod GroupWidths
 pub mod SideLaws
 pub mod SideSums
+pub mod BlockSide

@@ -1,22 +1,16 @@
 -- The rows as this encoder fills them have the widths of the side bits.
-use Rattle.std.proofs.Common.{◌≡◌, ℕ, zero, suc, ◌+◌, ◌-◌, ◌*◌, ◌<◌, ◌≤◌, ◌&&◌, ◌||◌, Bool, true, false, List, [], ◌∷◌, ◌++◌, length, take, get_or, nat_lt, nat_le, Option, Some, None, refl, ap, ap₂, sym, subst, ◌∙◌, arith}
-use Rattle.std.specs.Prelude.{is_some, not, if◌then◌else◌, sum}
-use Rattle.std.specs.List.{count_by}
-use Rattle.std.specs.Option.{ForSome, option_or}
+use Rattle.std.proofs.Common.{◌≡◌, ℕ, ◌+◌, Bool, false, [], ◌∷◌, ◌++◌, length, Option, ap, ◌∙◌, arith}
+use Rattle.std.specs.Prelude.{is_some}
 use Rattle.ac_bits.specs.Bits.{bits}
 use Rattle.ac_bits.proofs.Laws.{length-bits}
-use Rattle.ac_base.specs.Shape.{full_of, is_stereo, has_center, has_surround, subbands, rematrix_bands}
-use Rattle.ac_base.specs.SideBits.{when, head_rows, first_block_rows, later_block_rows}
-use Rattle.ac_codec.specs.declared.refused.Refused.{Refused}
-use Rattle.ac_codec.specs.Codec.{Codec, field, any, flag, test, zero_where, given, some_spell, pair, shaped}
-use Rattle.ac_codec.specs.Lists.{spelled_each}
-use Rattle.ac_rows.specs.Blocks.{Block}
-use Rattle.ac_rows.specs.declared.head.Head.{Head}
+use Rattle.ac_base.specs.Shape.{is_stereo, has_center, has_surround}
+use Rattle.ac_base.specs.SideBits.{when}
+use Rattle.ac_codec.specs.Codec.{field, test, given, some_spell, pair, shaped}
 use Rattle.ac_rows.specs.declared.head_groups.Layout.{Layout}
 use Rattle.ac_rows.specs.declared.head_groups.Service.{Service}
 use Rattle.ac_rows.specs.HeadRows.{layout, layout_rows, service, service_rows, head_fields, layout_of, service_of}
-use Rattle.ac_syntax.specs.Sent.{IsSentHead, HeadIsSide}
-use Rattle.ac_syntax.proofs.Widths.{number_width, bit_width, l2, l3, l4, l6, l7}
+use Rattle.ac_syntax.specs.Sent.{HeadIsSide}
+use Rattle.ac_syntax.proofs.Widths.{number_width, l2, l4, l6, l7}
 
 -- ---- a head
 nothing_there : (w : ℕ) (there : Bool) (o : Option ℕ) → is_some o ≡ there → there ≡ false → length (some_spell (λ v. bits v w) o) ≡ 0

@@ -1,5 +1,5 @@
 -- The sums of the widths of the groups, and those of the side bits.
-use Rattle.std.proofs.Common.{◌≡◌, ℕ, zero, suc, ◌+◌, ◌-◌, ◌*◌, ◌≤◌, ◌&&◌, Bool, true, false, List, [], ◌∷◌, Option, Some, None, refl, ap, sym, ◌∙◌, arith}
+use Rattle.std.proofs.Common.{◌≡◌, ℕ, ◌+◌, ◌-◌, ◌*◌, ◌&&◌, Bool, true, false, List, [], ◌∷◌, Option, Some, None, refl, ap, sym, ◌∙◌, arith}
 use Rattle.std.specs.Prelude.{is_some, if◌then◌else◌, sum}
 use Rattle.ac_base.specs.Shape.{full_of, is_stereo, subbands, rematrix_bands}
 use Rattle.ac_base.specs.SideBits.{when, first_block_rows, later_block_rows}

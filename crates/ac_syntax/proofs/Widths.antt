@@ -1,14 +1,12 @@
 -- How many bits rows have.
-use Rattle.std.proofs.Common.{◌≡◌, ℕ, zero, suc, ◌+◌, ◌-◌, ◌*◌, ◌<◌, ◌≤◌, ◌&&◌, Bool, true, false, cond, List, [], ◌∷◌, ◌++◌, length, nat_lt, nat_le, Option, Some, None, refl, ap, ap₂, sym, subst, ◌∙◌, arith, length-append, inl, inr}
-use Rattle.std.specs.Prelude.{is_some, if◌then◌else◌}
-use Rattle.std.specs.Option.{ForSome}
+use Rattle.std.proofs.Common.{◌≡◌, ℕ, zero, suc, ◌+◌, ◌-◌, ◌*◌, ◌<◌, ◌≤◌, ◌&&◌, Bool, true, false, List, [], ◌∷◌, ◌++◌, length, nat_lt, nat_le, Option, Some, None, refl, ap, ap₂, sym, ◌∙◌, arith, length-append, inl, inr}
+use Rattle.std.specs.Prelude.{is_some}
 use Rattle.std.proofs.Math.Nat.{suc-mul, mul-one, mul-add, mul_assoc}
 use Rattle.std.proofs.lemmas.Bool.{cases_lt, lt-ltb, le-ltb, le-leb}
 use Rattle.ac_bits.specs.Bits.{bits}
 use Rattle.ac_bits.proofs.Laws.{length-bits}
 use Rattle.ac_base.specs.SideBits.{when}
-use Rattle.ac_codec.specs.declared.refused.Refused.{Refused}
-use Rattle.ac_codec.specs.Codec.{Codec, field, test, given, slot, slot_spell, some_spell, each, cons, absent}
+use Rattle.ac_codec.specs.Codec.{Codec, slot_spell, some_spell, each, cons, absent}
 
 pub number_width : (there : Bool) (w : ℕ) (o : Option ℕ) → is_some o ≡ there → length (some_spell (λ v. bits v w) o) ≡ when there w
 number_width there w None e = rw (sym e) refl
@@ -64,19 +62,19 @@ below_total zero i m w h =
     let e : (m - i) * w ≡ 0 * w = ap (λ k. k * w) (omega arith) in
     omega (arith, e)
 below_total (suc n) i m w h = elim (cases_lt i m) [
-    | inl lt ↦
-        let r = below_total n (suc i) m w (omega arith) in
-        let e : m - i ≡ suc (m - suc i) = omega arith in
-        let a : when (nat_lt i m) w ≡ w = rw (lt-ltb i m lt) refl in
-        let s : (m - i) * w ≡ (m - suc i) * w + w = ap (λ k. k * w) e ∙ suc-mul (m - suc i) w in
-        omega (arith, a, r, s)
-    | inr le ↦
-        let r = below_total n (suc i) m w (omega arith) in
-        let a : when (nat_lt i m) w ≡ 0 = rw (le-ltb i m le) refl in
-        let d : (m - i) * w ≡ 0 * w = ap (λ k. k * w) (omega arith) in
-        let e : (m - suc i) * w ≡ 0 * w = ap (λ k. k * w) (omega arith) in
-        omega (arith, a, r, d, e)
-  ]
+  | inl lt ↦
+      let r = below_total n (suc i) m w (omega arith) in
+      let e : m - i ≡ suc (m - suc i) = omega arith in
+      let a : when (nat_lt i m) w ≡ w = rw (lt-ltb i m lt) refl in
+      let s : (m - i) * w ≡ (m - suc i) * w + w = ap (λ k. k * w) e ∙ suc-mul (m - suc i) w in
+      omega (arith, a, r, s)
+  | inr le ↦
+      let r = below_total n (suc i) m w (omega arith) in
+      let a : when (nat_lt i m) w ≡ 0 = rw (le-ltb i m le) refl in
+      let d : (m - i) * w ≡ 0 * w = ap (λ k. k * w) (omega arith) in
+      let e : (m - suc i) * w ≡ 0 * w = ap (λ k. k * w) (omega arith) in
+      omega (arith, a, r, d, e)
+]
 
 -- for five channels
 pub full_total : (full w : ℕ) → full ≤ 5 → total 5 0 (λ k. when (nat_lt k full) w) ≡ full * w

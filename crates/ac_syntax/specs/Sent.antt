@@ -1,8 +1,7 @@
 -- Heads and blocks as this encoder fills them, which is this project's profile: no optional field of the head, no dynamic range
 -- word, all full channels coupled or none, each subband a band, no phase flags; block 0 sends all, a later block keeps all but the
 -- exponents. Their rows have the widths of `side_bits`.
-use Rattle.std.specs.Prelude.{◌≡◌, ℕ, ◌+◌, ◌<◌, ◌&&◌, Bool, true, false, nat_lt, is_some, List, [], length, sum, Option, Some, None}
-use Rattle.std.specs.Option.{ForSome}
+use Rattle.std.specs.Prelude.{◌≡◌, ℕ, ◌+◌, ◌<◌, ◌&&◌, false, nat_lt, is_some, List, [], length, sum, Option}
 use Rattle.ac_bits.specs.Bits.{bits}
 use Rattle.ac_base.specs.Shape.{full_of}
 use Rattle.ac_base.specs.SideBits.{head_rows, first_block_rows, later_block_rows}

@@ -11,7 +11,7 @@ pub use ac_codec::{Refused, Row};
 pub use ac_rows::{Block, Head, read_block, read_head, write_block, write_head};
 pub use bins::spans;
 pub use filling::filled;
-pub use laws::syntax_laws;
+pub use laws::{side_laws, syntax_laws};
 
 #[cfg(test)]
 mod tests;
