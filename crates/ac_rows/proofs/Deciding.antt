@@ -3,7 +3,7 @@ use Rattle.std.proofs.Common.{◌≡◌, ℕ, zero, suc, ◌+◌, ◌*◌, ◌<�
 use Rattle.std.proofs.lemmas.Bool.{cases_lt, cases_eq, lt-ltb, ltb-true, leb-true, le-leb}
 use Rattle.ac_base.specs.declared.spans.Span.{Span}
 use Rattle.ac_expo.specs.Spelling.{Spelling}
-use Rattle.ac_expo.specs.Spans.{IsIn}
+use Rattle.ac_base.specs.Spans.{IsIn}
 use Rattle.ac_expo.specs.Steps.{step_of}
 use Rattle.ac_expo.specs.Groups.{IsOutside, IsOfGroup, IsRefused, IsFirstRefused, NoneRefused}
 use Rattle.ac_rows.specs.Spelled.{any_below, first_from, is_outside, is_bad_bin, is_bad_group, first_bad}

@@ -11,7 +11,7 @@ use Rattle.ac_base.specs.declared.spans.Span.{Span}
 use Rattle.ac_bits.specs.Bits.{bits, num}
 use Rattle.ac_bits.proofs.Laws.{length-bits}
 use Rattle.ac_expo.specs.Spelling.{Spelling}
-use Rattle.ac_expo.specs.Steps.{groups_of}
+use Rattle.ac_base.specs.Spans.{groups_of}
 use Rattle.ac_codec.specs.Codec.{Outcome, field, any, pair, shaped, each, cons, absent, single, judged_as}
 use Rattle.ac_codec.proofs.Sound.{Sound, IsOfWidth, single_sound, field_sound, pair_sound, shaped_sound, each_sound}
 use Rattle.ac_rows.specs.Spelled.{groups_row, spelled_row, spelling_to, spelling_from, bad_exponent, first_bad}

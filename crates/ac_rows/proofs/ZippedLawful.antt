@@ -8,7 +8,7 @@ use Rattle.ac_expo.specs.Spelling.{Spelling}
 use Rattle.ac_base.specs.declared.spans.Span.{Span}
 use Rattle.std.specs.Prelude.{is_some}
 use Rattle.ac_base.specs.Shape.{next_span, low_span, count_of}
-use Rattle.ac_expo.specs.Steps.{groups_of}
+use Rattle.ac_base.specs.Spans.{groups_of}
 use Rattle.ac_rows.specs.declared.groups.Coupling.{Coupling}
 use Rattle.ac_rows.specs.declared.groups.Codes.{Codes}
 use Rattle.ac_rows.specs.declared.groups.Exponents.{Exponents}

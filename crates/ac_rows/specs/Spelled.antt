@@ -6,7 +6,8 @@ use Rattle.ac_base.specs.declared.spans.Lead.{Lead}
 use Rattle.ac_bits.specs.Bits.{bits}
 use Rattle.ac_codec.specs.Lists.{spelled_each}
 use Rattle.ac_expo.specs.Spelling.{Spelling}
-use Rattle.ac_expo.specs.Steps.{step_of, groups_of}
+use Rattle.ac_base.specs.Spans.{groups_of}
+use Rattle.ac_expo.specs.Steps.{step_of}
 use Rattle.ac_expo.specs.Groups.{sum_to}
 use Rattle.ac_codec.specs.declared.refused.Refused.{Refused}
 use Rattle.ac_codec.specs.declared.refused.Refused.TheVariants.{BadExponent}

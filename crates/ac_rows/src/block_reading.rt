@@ -1,9 +1,8 @@
 //! Reading a block.
 ghost use Rattle.std.specs.Prelude.{◌≡◌, ◌≤◌, ◌++◌, List, Bool, IfOk, IfErr, length};
+ghost use Rattle.ac_codec.specs.Meaning.{HasRead, ReadsEach, RefusesEach};
 ghost use Rattle.ac_codec.specs.Codec.{Codec, Gives, GivesPart};
-ghost use Rattle.ac_codec.specs.declared.refused.Refused.{Refused};
 ghost use Rattle.ac_base.specs.Shape.{full_of, is_stereo};
-ghost use Rattle.ac_rows.specs.Blocks.{Rows};
 ghost use Rattle.ac_rows.specs.HeadRows.{head_fields};
 ghost use Rattle.ac_rows.specs.BlockRows.{PairFits, coupling_now, block_rows, block_fields, whole_block, bits_skipped, AreLawful};
 
@@ -98,10 +97,10 @@ pub fn read_block(head: &Head, earlier: &[Block], source: &mut BitSource) -> Res
     requires head { head_fields.Lawful head.now }
     requires earlier { AreLawful head.now earlier.now }
     requires count { length earlier.now ≤ 5 }
-    ensures value { IfOk result (λ b. (skipped : List Bool) × (whole_block head.now earlier.now).Lawful (b, skipped) × (source.old ≡ (whole_block head.now earlier.now).spell (b, skipped) ++ source.new)) }
-    ensures complete { (b : Rows) (skipped rest : List Bool) → (whole_block head.now earlier.now).Lawful (b, skipped) → source.old ≡ (whole_block head.now earlier.now).spell (b, skipped) ++ rest → (result ≡ Ok b) × (source.new ≡ rest) }
+    ensures value { IfOk result (λ a. HasRead (whole_block head.now earlier.now) source.old source.new a) }
+    ensures complete { ReadsEach (whole_block head.now earlier.now) source.old source.new result }
     ensures cause { IfErr result (λ e. (whole_block head.now earlier.now).Refuses source.old e source.new) }
-    ensures refused { (e : Refused) (at : List Bool) → (whole_block head.now earlier.now).Refuses source.old e at → (result ≡ Err e) × (source.new ≡ at) }
+    ensures refused { RefusesEach (whole_block head.now earlier.now) source.old source.new result }
 {
     read_whole(head, earlier, source)
 }

@@ -3,7 +3,7 @@ ghost use Rattle.std.specs.Prelude.{◌≡◌, ◌+◌, ◌*◌, ◌<◌, ◌≤
 ghost use Rattle.std.specs.List.{All};
 ghost use Rattle.ac_base.specs.Shape.{IsSpan};
 ghost use Rattle.ac_bits.specs.Bits.{bits, Appends};
-ghost use Rattle.ac_expo.specs.Spans.{IsKind};
+ghost use Rattle.ac_base.specs.Spans.{IsKind};
 ghost use Rattle.ac_codec.specs.Codec.{Gives, given};
 ghost use Rattle.ac_codec.specs.Lists.{spelled_each};
 ghost use Rattle.ac_rows.specs.Spelled.{groups_row, spelled_row, spelling_bits};

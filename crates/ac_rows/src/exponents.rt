@@ -1,7 +1,7 @@
 //! The exponents of all channels.
 ghost use Rattle.std.specs.Prelude.{◌≡◌, ◌<◌, ◌≤◌, ◌+◌, Bool, true, is_some, nat_lt, slice_index, if◌then◌else◌, None};
 ghost use Rattle.ac_base.specs.Shape.{IsSpan, low_span};
-ghost use Rattle.ac_expo.specs.Spans.{greatest_kind};
+ghost use Rattle.ac_base.specs.Spans.{greatest_kind};
 ghost use Rattle.ac_codec.specs.Codec.{Gives, given, pair, field, any};
 ghost use Rattle.ac_rows.specs.Filled.{channel_coupled, entry, number};
 ghost use Rattle.ac_rows.specs.Spelled.{spelled_row};
@@ -10,8 +10,8 @@ ghost use Rattle.ac_rows.specs.BlockRows.{HasSubbands, CodesFit, sent_span, expo
 use crate::exponent::read_spelled;
 use crate::groups::{Codes, Coupling, Exponents};
 use crate::optional::{holds, number};
-use crate::span::{full_span, low_span, next_span};
-use ac_base::Span;
+use crate::span::{full_span, next_span};
+use ac_base::{Span, low_span};
 use ac_bits::BitSource;
 use ac_codec::Refused;
 use ac_codec::read::optional;

@@ -1,8 +1,7 @@
 //! Reading a head.
 ghost use Rattle.std.specs.Prelude.{◌≡◌, ◌≤◌, ◌++◌, List, Bool, IfOk, IfErr};
+ghost use Rattle.ac_codec.specs.Meaning.{HasRead, ReadsEach, RefusesEach};
 ghost use Rattle.ac_codec.specs.Codec.{Codec, Gives, GivesPart, field};
-ghost use Rattle.ac_codec.specs.declared.refused.Refused.{Refused};
-ghost use Rattle.ac_rows.specs.declared.head.Head.{Head};
 ghost use Rattle.ac_rows.specs.HeadRows.{sync_only, eight_only, no_dual, layout, service, head_fields, whole_head, addbsi_bits, extra_bits};
 
 use crate::channels::{center, stereo, surround};
@@ -191,10 +190,10 @@ fn read_whole(source: &mut BitSource) -> Result<Head, Refused>
 /// The refusal of the first field, in the order of the bits, that no lawful head has there. The source then stands where
 /// that field began.
 pub fn read_head(source: &mut BitSource) -> Result<Head, Refused>
-    ensures value { IfOk result (λ h. (addbsi : List Bool) × whole_head.Lawful (h, addbsi) × (source.old ≡ whole_head.spell (h, addbsi) ++ source.new)) }
-    ensures complete { (h : Head) (addbsi rest : List Bool) → whole_head.Lawful (h, addbsi) → source.old ≡ whole_head.spell (h, addbsi) ++ rest → (result ≡ Ok h) × (source.new ≡ rest) }
+    ensures value { IfOk result (λ a. HasRead whole_head source.old source.new a) }
+    ensures complete { ReadsEach whole_head source.old source.new result }
     ensures cause { IfErr result (λ e. whole_head.Refuses source.old e source.new) }
-    ensures refused { (e : Refused) (at : List Bool) → whole_head.Refuses source.old e at → (result ≡ Err e) × (source.new ≡ at) }
+    ensures refused { RefusesEach whole_head source.old source.new result }
 {
     read_whole(source)
 }

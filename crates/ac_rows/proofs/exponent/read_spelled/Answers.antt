@@ -21,10 +21,10 @@ pub returns-in-Ok : goal.returns-in-Ok
 returns-in-Ok c =
     let s = c.whole_spelled-spelled in
     let read = rw c.groups-count.ensures.value at s.ensures in
-    spelled_ok c.args.kind c.args.span.now c.args.channel c.args.source.now s.new.source s.result (omega (arith, c.if-left-from.false, c.left.ensures, c.from.ensures, c.groups-count.ensures.value)) read c.in-Ok.ensures.accepted
+    spelled_ok c.args.kind c.args.span.now c.args.channel c.args.source.now s.new.source s.result (omega (arith, c.if-left-from.false, c.left.ensures, c.from.ensures, c.groups-count.ensures.value)) read c.in-Ok.ensures.cause
 
 pub returns-in-Err : goal.returns-in-Err
 returns-in-Err c =
     let s = c.whole_spelled-spelled in
     let read = rw c.groups-count.ensures.value at s.ensures in
-    rw c.copy-before.ensures (spelled_bad c.args.kind c.args.span.now c.args.channel c.args.source.now s.new.source s.result c.in-Err.bad.place (omega (arith, c.if-left-from.false, c.left.ensures, c.from.ensures, c.groups-count.ensures.value)) read c.in-Err.ensures.refused)
+    rw c.copy-before.ensures (spelled_bad c.args.kind c.args.span.now c.args.channel c.args.source.now s.new.source s.result c.in-Err.bad.place (omega (arith, c.if-left-from.false, c.left.ensures, c.from.ensures, c.groups-count.ensures.value)) read c.in-Err.ensures.cause)
