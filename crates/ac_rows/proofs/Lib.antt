@@ -1,0 +1,14 @@
+pub mod BlockBits
+pub mod BlockSound
+pub mod Bounds
+pub mod Deciding
+pub mod EachBits
+pub mod FilledSpans
+pub mod HeadSound
+pub mod JoinedChannels
+pub mod Later
+pub mod Listed
+pub mod Pairs
+pub mod SpelledSound
+pub mod ZippedBits
+pub mod ZippedLawful

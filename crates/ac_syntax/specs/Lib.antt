@@ -1,0 +1,4 @@
+pub mod Filling
+pub mod Later
+pub mod Latest
+pub mod Sent
