@@ -1,0 +1,5 @@
+pub mod Laws
+pub mod Parts
+pub mod Pointers
+pub mod Runs
+pub mod Sixths
