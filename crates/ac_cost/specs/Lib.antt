@@ -1,5 +1,6 @@
 pub mod Laws
 pub mod Parts
 pub mod Pointers
+pub mod Rows
 pub mod Runs
 pub mod Sixths

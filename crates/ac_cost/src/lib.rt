@@ -3,5 +3,6 @@
 #![tactic(auto)]
 
 mod laws;
+mod rows;
 
 pub use laws::assignment_laws;
