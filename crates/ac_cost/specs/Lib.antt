@@ -1,4 +1,5 @@
 pub mod Laws
+pub mod Lists
 pub mod Parts
 pub mod Pointers
 pub mod Rows

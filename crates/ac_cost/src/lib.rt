@@ -3,6 +3,7 @@
 #![tactic(auto)]
 
 mod laws;
+mod listed;
 mod rows;
 
 pub use laws::assignment_laws;

@@ -1,0 +1,19 @@
+use Rattle.std.proofs.Common.{◌≡◌, ◌<◌, ◌≤◌, ℕ, List, [], ◌+◌, length, slice_index, slice_index_or, subst, ap, sym, ◌∙◌, arith, length-set}
+use Rattle.ac_base.specs.Allocation.{bins}
+use Rattle.ac_alloc.specs.Integration.{AreExponents}
+use Rattle.ac_cost.specs.declared.listed.Listed.{Listed}
+use Rattle.ac_cost.specs.Lists.{not_listed, AreListed}
+use Rattle.ac_cost.proofs.Listing.{set_each, set_more}
+use Rattle.ac_cost.proofs.listed.list_channels.Goals as goal
+
+pub loop-c-preserved : goal.loop-c-preserved
+loop-c-preserved c =
+    let i = c.loop-c in
+    let P : ℕ → List Listed → Type 0 = λ d rows. AreListed c.args.shape.now c.args.raw.now.e d rows in
+    let Q : ℕ → List Listed → Type 0 = λ d rows. (row : ℕ) → AreExponents 0 bins (slice_index_or rows row not_listed).exps in
+    let in_range : i.c < length i.out = omega (arith, c.coded-c-end.ensures.bound, i.invariant.long, c.loop-c-test.true) in
+    record {
+      done = set_more P i.out i.c _ [] in_range i.invariant.done c.list_channel.ensures.value;
+      small = set_each Q i.out i.c _ [] in_range (λ j ne. i.invariant.small j) c.list_channel.ensures.value.small;
+      long = length-set i.out i.c _ ∙ i.invariant.long;
+    }
