@@ -1,5 +1,6 @@
 pub mod Bounding
 pub mod Cheapest
+pub mod Counting
 pub mod Covering
 pub mod Listing
 pub mod Lists

@@ -4,6 +4,7 @@
 
 mod laws;
 mod listed;
+mod priced;
 mod rows;
 
 pub use laws::assignment_laws;
