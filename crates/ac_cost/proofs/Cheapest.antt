@@ -25,7 +25,7 @@ use Rattle.ac_cost.specs.Parts.{parts_at, FitsAt, IsFeasible, cheapest_words, ch
 use Rattle.ac_cost.specs.Laws.{FeasibleMakesCheapestFit}
 use Rattle.ac_cost.proofs.Bounding.{channels_none, channels_more}
 use Rattle.ac_base.proofs.SpanBounds.{span_some}
-use Rattle.ac_cost.proofs.Lists.{span_of_shape}
+use Rattle.ac_cost.proofs.Exponents.{span_of_shape}
 use Rattle.ac_cost.proofs.Pricing.{run_bap-silent}
 use Rattle.ac_cost.proofs.Tallying.{bins_none, bins_more}
 

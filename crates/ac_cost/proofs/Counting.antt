@@ -22,8 +22,9 @@ use Rattle.ac_mant.specs.declared.counts.Counts.{Counts}
 use Rattle.ac_mant.specs.Counts.{tally, AreWithin}
 use Rattle.ac_cost.specs.declared.listed.Listed.{Listed}
 use Rattle.ac_cost.specs.Lists.{IsListed}
+use Rattle.ac_cost.specs.Prices.{AreFew}
 use Rattle.ac_cost.specs.Pointers.{run_exps, run_bap, run_tally}
-use Rattle.ac_cost.proofs.Lists.{span_of_shape}
+use Rattle.ac_cost.proofs.Exponents.{span_of_shape}
 use Rattle.ac_cost.proofs.Reading.{bap_same}
 use Rattle.ac_cost.proofs.Tallying.{bins_same, bins_none, bins_more, bins_within, IsWithin}
 
@@ -80,3 +81,12 @@ pub counts-small : (counts : Counts) (f : ℕ → ℕ) (start n : ℕ) → tally
 counts-small counts f start n e l =
     let w : IsWithin n (tally counts) = subst (IsWithin n) (sym e) (bins_within f start n) in
     (omega (arith, w.linear), omega (arith, w.n1), omega (arith, w.n2), omega (arith, w.n4))
+
+-- a run has as few as its bins
+pub run-few : (shape : Shape) (raw : List (List (List ℕ))) (t c : ℕ) (run : Run) (counts : Counts) → tally counts ≡ run_tally shape raw t c run → AreFew 1 counts
+run-few shape raw t c run counts e =
+    let span = channel_span shape c in
+    let end = span_end span (span_of_shape shape c) in
+    let n = span.end - span.start in
+    let w : IsWithin n (tally counts) = subst (IsWithin n) (sym e) (bins_within (run_bap shape raw t c run) span.start n) in
+    (omega (arith, w.linear, end), omega (arith, w.n1, end), omega (arith, w.n2, end), omega (arith, w.n4, end))

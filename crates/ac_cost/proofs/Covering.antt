@@ -78,3 +78,15 @@ sum_same-below (suc n) f g e =
 pub total-same : (f g : Run → ℕ) (runs : List Run) → ((run : Run) → f run ≡ g run) → total f runs ≡ total g runs
 total-same f g [] e = refl
 total-same f g (run ∷ runs) e = omega (arith, e run, total-same f g runs e)
+
+-- ---- the blocks of a run, one by one
+pub blocks-none : (run : Run) (cost : ℕ) → in_blocks 0 run cost ≡ 0
+blocks-none run cost = sum_none (λ b. if has run b then cost else 0)
+
+pub blocks-more : (n : ℕ) (run : Run) (cost : ℕ) → (has run n ≡ true → in_blocks (n + 1) run cost ≡ in_blocks n run cost + cost) × (has run n ≡ false → in_blocks (n + 1) run cost ≡ in_blocks n run cost)
+blocks-more n run cost =
+    let f : ℕ → ℕ = λ b. if has run b then cost else 0 in
+    let e : n + 1 ≡ suc n = omega arith in
+    let more : in_blocks (n + 1) run cost ≡ in_blocks n run cost + f n = ap (λ m. sum_below m f) e ∙ sum_more n f in
+    (λ there. more ∙ ap (λ t. in_blocks n run cost + (if t then cost else 0)) there,
+    λ missing. more ∙ (ap (λ t. in_blocks n run cost + (if t then cost else 0)) missing ∙ (omega arith)))

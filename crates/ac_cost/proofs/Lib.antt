@@ -3,7 +3,7 @@ pub mod Cheapest
 pub mod Counting
 pub mod Covering
 pub mod Listing
-pub mod Lists
+pub mod Exponents
 pub mod Pricing
 pub mod Reading
 pub mod Tallying

@@ -15,12 +15,14 @@ use Rattle.ac_expo.proofs.Minima.{small_start}
 use Rattle.ac_alloc.specs.declared.mask.Mask.{Mask}
 use Rattle.ac_alloc.specs.declared.params.Params.{Params}
 use Rattle.ac_alloc.specs.Codes.{encoder_params, floor_of}
+use Rattle.ac_base.specs.Allocation.{bins}
+use Rattle.ac_alloc.specs.Integration.{AreExponents}
 use Rattle.ac_alloc.specs.Masking.{mask, first_band, last_band}
 use Rattle.ac_cost.specs.Runs.{IsRunOf}
 use Rattle.ac_cost.specs.Rows.{froms, tos, firsts, run_of, row_of, rows_of}
 use Rattle.ac_cost.specs.Lists.{IsListed, AreListed, not_listed}
 use Rattle.ac_cost.specs.declared.listed.Listed.{Listed}
-use Rattle.ac_cost.proofs.Lists.{run_exps_are}
+use Rattle.ac_cost.proofs.Exponents.{run_exps_are}
 
 pub listed_is : (shape : Shape) (raw : List (List (List ℕ))) (c : ℕ) (run : Run) (span : Span) (p : Params) (exps : List ℕ) (m : Mask) → span ≡ channel_span shape c → p ≡ encoder_params shape.fscod → IsByFormula run.kind span (slice_index_or raw c []) run.from run.to exps → ((b : ℕ) → first_band span ≤ b → b ≤ last_band span → slice_index_or m.m b (pos 0) ≡ mask p span exps b) → m.floor ≡ floor_of p → IsListed shape raw c run (record { exps = exps; mask = m })
 listed_is shape raw c run span p exps m es ep formula masks floor =
@@ -97,10 +99,10 @@ set_more P xs i v d l all new j m =
       | inr other ↦ subst (P j) (sym (get_or-set_other xs i j v d other)) (all j (omega arith))
     ]
 
-pub listed_all : (shape : Shape) (raw : List (List (List ℕ))) (c count : ℕ) (rows : List Listed) → count ≡ rows_of (channel_span shape c).lead → ((row : ℕ) → row < count → IsListed shape raw c (run_of row) (slice_index_or rows row not_listed)) → ((row k : ℕ) → 0 ≤ k → k < 253 → slice_index (slice_index_or rows row not_listed).exps k ≤ 24) → AreListed shape raw c rows
+pub listed_all : (shape : Shape) (raw : List (List (List ℕ))) (c count : ℕ) (rows : List Listed) → count ≡ rows_of (channel_span shape c).lead → ((row : ℕ) → row < count → IsListed shape raw c (run_of row) (slice_index_or rows row not_listed)) → ((row : ℕ) → row < count → AreExponents 0 bins (slice_index_or rows row not_listed).exps) → AreListed shape raw c rows
 listed_all shape raw c count rows e done small = record {
   lists = λ run is.
       let below = row_below shape c run is in
       subst (λ r. IsListed shape raw c r (slice_index_or rows (row_of run) not_listed)) (run_back run is.is_run) (done (row_of run) (omega (arith, e)));
-  small = small;
+  small = λ row l. small row (omega (arith, e, l));
 }

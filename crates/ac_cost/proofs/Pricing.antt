@@ -22,7 +22,7 @@ use Rattle.ac_cost.specs.Runs.{IsRunOf, has}
 use Rattle.ac_cost.specs.Pointers.{run_exps, run_bap, run_tally}
 use Rattle.ac_cost.specs.Sixths.{bits_in, in_blocks, in_part, run_sixths}
 use Rattle.ac_cost.specs.Laws.{SixthsRise}
-use Rattle.ac_cost.proofs.Lists.{span_of_shape}
+use Rattle.ac_cost.proofs.Exponents.{span_of_shape}
 use Rattle.ac_cost.proofs.Tallying.{bins_rise}
 
 -- ---- pointers by offset

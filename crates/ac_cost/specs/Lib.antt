@@ -3,6 +3,8 @@ pub mod Lists
 pub mod Parts
 pub mod Pointers
 pub mod Prices
+pub mod Records
 pub mod Rows
 pub mod Runs
+pub mod Seen
 pub mod Sixths

@@ -11,7 +11,7 @@ use Rattle.ac_alloc.specs.Masking.{mask, first_band, last_band}
 use Rattle.ac_cost.specs.declared.listed.Listed.{Listed}
 use Rattle.ac_cost.specs.Runs.{IsRunOf}
 use Rattle.ac_cost.specs.Pointers.{run_exps}
-use Rattle.ac_cost.specs.Rows.{row_of}
+use Rattle.ac_cost.specs.Rows.{row_of, rows_of}
 
 -- the exponents of a run and its mask
 pub record IsListed (shape : Shape) (raw : List (List (List ℕ))) (c : ℕ) (run : Run) (listed : Listed) : Type 0 where
@@ -24,7 +24,7 @@ pub record IsListed (shape : Shape) (raw : List (List (List ℕ))) (c : ℕ) (ru
 abbrev pub not_listed : Listed
 not_listed = record { exps = []; mask = record { m = []; floor = pos 0 } }
 
--- all runs of a channel by row; each row, also one of no run, has exponents
+-- all runs of a channel by row
 pub record AreListed (shape : Shape) (raw : List (List (List ℕ))) (c : ℕ) (rows : List Listed) : Type 0 where
   pub lists : (run : Run) → IsRunOf shape c run → IsListed shape raw c run (slice_index_or rows (row_of run) not_listed)
-  pub small : (row : ℕ) → AreExponents 0 bins (slice_index_or rows row not_listed).exps
+  pub small : (row : ℕ) → row < rows_of (channel_span shape c).lead → AreExponents 0 bins (slice_index_or rows row not_listed).exps

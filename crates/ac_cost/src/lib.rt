@@ -2,9 +2,14 @@
 //! room of their own.
 #![tactic(auto)]
 
+mod blocks;
 mod laws;
 mod listed;
+mod lists;
 mod priced;
 mod rows;
+mod table;
 
 pub use laws::assignment_laws;
+pub use lists::RunLists;
+pub use table::RunTable;

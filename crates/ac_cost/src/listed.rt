@@ -36,7 +36,6 @@ fn list_run(shape: &Shape, raw: &RawExps, c: u8, run: &Run) -> Listed
 /// Those of all runs of coded channel c, by row.
 fn list_channel(shape: &Shape, raw: &RawExps, c: u8, out: &mut [Listed; 63])
     requires channel { c < channels shape.now }
-    requires small { (row : ℕ) → AreExponents 0 bins (slice_index_or out.old row not_listed).exps }
     ensures value { AreListed shape.now raw.now.e c out.new }
 {
     let count = row_count(shape.span(c).lead);
@@ -47,7 +46,6 @@ fn list_channel(shape: &Shape, raw: &RawExps, c: u8, out: &mut [Listed; 63])
 
 /// Those of all coded channels.
 pub fn list_channels(shape: &Shape, raw: &RawExps, out: &mut [[Listed; 63]; 7])
-    requires small { (c row : ℕ) → AreExponents 0 bins (slice_index_or (slice_index_or out.old c []) row not_listed).exps }
     ensures value { (c : ℕ) → c < channels shape.now → AreListed shape.now raw.now.e c (slice_index_or out.new c []) }
 {
     for c in 0..shape.coded() {

@@ -5,10 +5,11 @@ ghost use Rattle.ac_base.specs.Allocation.{bins};
 ghost use Rattle.ac_base.specs.Fit.{tally_span};
 ghost use Rattle.ac_base.specs.Shape.{IsSpan};
 ghost use Rattle.ac_base.specs.Spans.{IsIn};
-ghost use Rattle.ac_expo.specs.Raw.{channels};
+ghost use Rattle.ac_expo.specs.Raw.{channels, channel_span};
 ghost use Rattle.ac_alloc.specs.Integration.{AreExponents};
 ghost use Rattle.ac_mant.specs.Counts.{tally};
 ghost use Rattle.ac_cost.specs.Pointers.{run_tally};
+ghost use Rattle.ac_cost.specs.Rows.{rows_of};
 ghost use Rattle.ac_cost.specs.Lists.{not_listed, IsListed, AreListed};
 ghost use Rattle.ac_cost.specs.Prices.{ArePriced};
 
@@ -56,7 +57,7 @@ fn price(shape: &Shape, c: u8, t: u16, listed: &Listed) -> Counts
 /// Those of all runs of coded channel c, by row.
 fn price_channel(shape: &Shape, c: u8, t: u16, lists: &[Listed; 63], out: &mut [Counts; 63])
     requires channel { c < channels shape.now }
-    requires small { (row : ℕ) → AreExponents 0 bins (slice_index_or lists.now row not_listed).exps }
+    requires small { (row : ℕ) → row < rows_of (channel_span shape.now c).lead → AreExponents 0 bins (slice_index_or lists.now row not_listed).exps }
     requires t { t ≤ 1023 }
     ensures { (raw : List (List (List ℕ))) → AreListed shape.now raw c lists.now → ArePriced shape.now raw t c out.new }
 {
@@ -73,7 +74,8 @@ pub fn price_channels(
     lists: &[[Listed; 63]; 7],
     out: &mut [[Counts; 63]; 7],
 )
-    requires small { (c : ℕ) → c < channels shape.now → (row : ℕ) → AreExponents 0 bins (slice_index_or (slice_index_or lists.now c []) row not_listed).exps }
+    requires small { (c row : ℕ) → c < channels shape.now → row < rows_of (channel_span shape.now c).lead
+        → AreExponents 0 bins (slice_index_or (slice_index_or lists.now c []) row not_listed).exps }
     requires t { t ≤ 1023 }
     ensures { (raw : List (List (List ℕ))) (c : ℕ) → c < channels shape.now → AreListed shape.now raw c (slice_index_or lists.now c [])
         → ArePriced shape.now raw t c (slice_index_or out.new c []) }

@@ -20,7 +20,7 @@ loop-row-preserved c =
     let new = subst (λ r. IsListed c.args.shape.now c.args.raw.now.e c.args.c r c.list_run.result) c.run_at.ensures.value c.list_run.ensures.value in
     record {
       done = set_more P i.out i.row c.list_run.result not_listed in_range i.invariant.done new;
-      small = set_each Q i.out i.row c.list_run.result not_listed in_range (λ j ne. i.invariant.small j) c.list_run.ensures.small;
+      small = set_more Q i.out i.row c.list_run.result not_listed in_range i.invariant.small c.list_run.ensures.small;
       long = length-set i.out i.row c.list_run.result ∙ i.invariant.long;
     }
 
@@ -29,4 +29,4 @@ returns c =
     let i = c.loop-row in
     let e : c.row_count-count.result ≡ rows_of (channel_span c.args.shape.now c.args.c).lead =
     c.row_count-count.ensures.value ∙ ap (λ (s : Span). rows_of s.lead) c.span.ensures.value in
-    record { value = listed_all c.args.shape.now c.args.raw.now.e c.args.c c.row_count-count.result i.out e (λ row l. i.invariant.done row (omega (arith, c.loop-row-test.false))) i.invariant.small }
+    record { value = listed_all c.args.shape.now c.args.raw.now.e c.args.c c.row_count-count.result i.out e (λ row l. i.invariant.done row (omega (arith, c.loop-row-test.false))) (λ row l. i.invariant.small row (omega (arith, c.loop-row-test.false))) }

@@ -10,10 +10,8 @@ pub loop-c-preserved : goal.loop-c-preserved
 loop-c-preserved c =
     let i = c.loop-c in
     let P : ℕ → List Listed → Type 0 = λ d rows. AreListed c.args.shape.now c.args.raw.now.e d rows in
-    let Q : ℕ → List Listed → Type 0 = λ d rows. (row : ℕ) → AreExponents 0 bins (slice_index_or rows row not_listed).exps in
     let in_range : i.c < length i.out = omega (arith, c.coded-c-end.ensures.bound, i.invariant.long, c.loop-c-test.true) in
     record {
       done = set_more P i.out i.c _ [] in_range i.invariant.done c.list_channel.ensures.value;
-      small = set_each Q i.out i.c _ [] in_range (λ j ne. i.invariant.small j) c.list_channel.ensures.value.small;
       long = length-set i.out i.c _ ∙ i.invariant.long;
     }
