@@ -23,6 +23,7 @@ use Rattle.ac_cost.specs.Runs.{IsAssignmentOf, run_with}
 use Rattle.ac_cost.specs.Pointers.{run_bap, pointers}
 use Rattle.ac_cost.specs.Parts.{parts_at, FitsAt, IsFeasible, cheapest_words, cheapest_assign}
 use Rattle.ac_cost.specs.Laws.{FeasibleMakesCheapestFit}
+use Rattle.ac_cost.proofs.Assigning.{low-lead}
 use Rattle.ac_cost.proofs.Bounding.{channels_none, channels_more}
 use Rattle.ac_base.proofs.SpanBounds.{span_some}
 use Rattle.ac_cost.proofs.Exponents.{span_of_shape}
@@ -102,16 +103,6 @@ late-code k (suc (suc zero)) = refl
 late-code k (suc (suc (suc zero))) = refl
 late-code k (suc (suc (suc (suc zero)))) = refl
 late-code k (suc (suc (suc (suc (suc block))))) = refl
-
-low-lead : (acmod bw : ℕ) (couple : Option (ℕ × ℕ)) → (span_of acmod bw couple (coded_of acmod false couple)).lead ≡ Low
-low-lead acmod bw None =
-    let f : nat_lt (coded_of acmod false None) (full_of acmod) ≡ false = le-ltb _ _ (omega arith) in
-    let t : nat_eq (coded_of acmod false None) (full_of acmod) ≡ true = eq-eqb _ _ (omega arith) in
-    rw (f, t) refl
-low-lead acmod bw (Some p) =
-    let f : nat_lt (coded_of acmod false (Some p)) (full_of acmod) ≡ false = le-ltb _ _ (omega arith) in
-    let t : nat_eq (coded_of acmod false (Some p)) (full_of acmod) ≡ false = ne_eqb _ _ (omega arith) in
-    rw (f, t) refl
 
 -- what the cheapest assignment has for a channel
 abbrev HasCheapWord : ℕ → Bool → Option (ℕ × ℕ) → ℕ → ℕ → Type 0

@@ -1,12 +1,15 @@
 -- Of the runs of a word one alone has a block.
 use Rattle.std.proofs.Common.{◌≡◌, ℕ, zero, suc, ◌+◌, ◌<◌, ◌≤◌, Bool, true, false, List, [], ◌∷◌, refl, sym, ap, ◌∙◌, inl, inr, arith}
 use Rattle.std.specs.Prelude.{if◌then◌else◌, nat_lt, nat_le, ◌&&◌}
-use Rattle.std.specs.List.{AllByRecursion}
+use Rattle.std.proofs.Common.{length, slice_index_or}
+use Rattle.std.specs.List.{All, AllByRecursion}
+use Rattle.std.proofs.lemmas.List.Elements.{recursion_from_All}
+use Rattle.ac_base.proofs.Stretches.{tile}
 use Rattle.std.proofs.lemmas.Bool.{cases_lt}
 use Rattle.std.proofs.lemmas.Bool.Decides.{nat_tests}
 use Rattle.ac_base.specs.declared.runs.Run.{Run}
 use Rattle.ac_base.specs.Sigma.{sum_below}
-use Rattle.ac_base.specs.Words.{Tile}
+use Rattle.ac_base.specs.Words.{Tile, IsWord, IsRun, runs_of}
 use Rattle.ac_base.proofs.ByRuns.{sum_more, sum_none, sum_both, sum_zero}
 use Rattle.ac_cost.specs.Runs.{has, run_with}
 use Rattle.ac_cost.specs.Sixths.{in_blocks}
@@ -90,3 +93,17 @@ blocks-more n run cost =
     let more : in_blocks (n + 1) run cost ≡ in_blocks n run cost + f n = ap (λ m. sum_below m f) e ∙ sum_more n f in
     (λ there. more ∙ ap (λ t. in_blocks n run cost + (if t then cost else 0)) there,
     λ missing. more ∙ (ap (λ t. in_blocks n run cost + (if t then cost else 0)) missing ∙ (omega arith)))
+
+-- ---- the first run that has a block
+pub first-has : (runs : List Run) (b i : ℕ) (d : Run) → i < length runs → ((j : ℕ) → j < i → has (slice_index_or runs j d) b ≡ false) → has (slice_index_or runs i d) b ≡ true → run_with runs b ≡ slice_index_or runs i d
+first-has [] b i d l before here = absurd (omega arith)
+first-has (run ∷ runs) b zero d l before here = rw here refl
+first-has (run ∷ runs) b (suc i) d l before here =
+    let no : has run b ≡ false = before 0 (omega arith) in
+    rw no (first-has runs b i d (omega arith) (λ j m. before (suc j) (omega arith)) here)
+
+pub none-has : (runs : List Run) (b : ℕ) (d : Run) → ((j : ℕ) → j < length runs → has (slice_index_or runs j d) b ≡ false) → run_with runs b ≡ record { from = 0; to = 0; kind = 0 }
+none-has [] b d none = refl
+none-has (run ∷ runs) b d none =
+    let no : has run b ≡ false = none 0 (omega arith) in
+    rw no (none-has runs b d (λ j m. none (suc j) (omega arith)))

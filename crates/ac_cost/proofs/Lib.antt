@@ -1,3 +1,4 @@
+pub mod Assigning
 pub mod Bounding
 pub mod Cheapest
 pub mod Counting
@@ -6,4 +7,5 @@ pub mod Listing
 pub mod Exponents
 pub mod Pricing
 pub mod Reading
+pub mod Summing
 pub mod Tallying

@@ -6,6 +6,7 @@ mod blocks;
 mod laws;
 mod listed;
 mod lists;
+mod parts;
 mod priced;
 mod rows;
 mod table;
