@@ -1,8 +1,9 @@
 -- What assignments take, and their runs.
 use Rattle.std.proofs.Common.{◌≡◌, ◌⊎◌, ℕ, zero, suc, ◌+◌, ◌<◌, ◌≤◌, Bool, true, false, List, [], ◌∷◌, slice_index, slice_index_or, Option, Some, None, refl, sym, ap, ◌∙◌, subst, inl, inr, arith}
-use Rattle.std.specs.Prelude.{nat_lt, nat_eq, if◌then◌else◌}
+use Rattle.std.specs.Prelude.{nat_le, nat_lt, nat_eq, is_some, if◌then◌else◌}
+use Rattle.ac_base.proofs.Tests.{all_below-at}
 use Rattle.std.specs.List.{All, AllByRecursion}
-use Rattle.std.proofs.lemmas.Bool.{cases_lt, ne_eqb, lt-ltb, le-ltb, eq-eqb}
+use Rattle.std.proofs.lemmas.Bool.{cases_lt, ne_eqb, lt-ltb, le-ltb, eq-eqb, leb-true}
 use Rattle.std.proofs.lemmas.List.Elements.{recursion_from_All}
 use Rattle.ac_base.specs.declared.runs.Run.{Run}
 use Rattle.ac_base.specs.declared.shapes.Shape.{Shape}
@@ -76,3 +77,19 @@ run-of shape assign c b is l m =
       };
       taken = omega (arith, stretch.kind, is.kinds c _ l within);
     }
+
+-- ---- how many channels, and the same words
+count-le : (there : Bool) → (if there then 1 else 0) ≤ 1
+count-le true = omega arith
+count-le false = omega arith
+
+pub coded-few : (shape : Shape) → channels shape ≤ 7
+coded-few shape =
+    let full = leb-true _ _ (all_below-at 8 (λ k. nat_le (full_of k) 5) refl shape.acmod (omega (arith, shape.channels))) in
+    omega (arith, full, count-le (is_some shape.couple), count-le shape.lfe)
+
+pub assign-same : (shape : Shape) (assign others : List (List ℕ)) → channels shape ≤ 7 → ((c : ℕ) → c < 7 → slice_index_or others c [] ≡ word_of assign c) → IsAssignmentOf shape assign → IsAssignmentOf shape others
+assign-same shape assign others few same is = record {
+  words = λ c l. subst IsWord (sym (same c (omega arith))) (is.words c l);
+  kinds = λ c block l b. let e = ap (λ w. slice_index w block) (same c (omega arith)) in omega (arith, e, is.kinds c block l b);
+}

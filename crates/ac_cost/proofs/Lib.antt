@@ -7,5 +7,6 @@ pub mod Listing
 pub mod Exponents
 pub mod Pricing
 pub mod Reading
+pub mod Sides
 pub mod Summing
 pub mod Tallying

@@ -59,3 +59,9 @@ pub exponents-same : (v : AtOffset) (codes assign : List (List ℕ)) (b : ℕ) �
 exponents-same v codes assign b few same =
     sum_same-below (channels v.shape) (λ c. exponent_bits (slice_index (word_of codes c) b) (channel_span v.shape c)) (λ c. exponent_bits (slice_index (word_of assign c) b) (channel_span v.shape c))
     (λ c l. ap (λ w. exponent_bits (slice_index w b) (channel_span v.shape c)) (same c (omega arith)))
+
+pub parts-are : (v : AtOffset) (assign : List (List ℕ)) (side : Parts) (a b c d last : ℕ) → side ≡ side_of v.shape.acmod v.shape.lfe v.shape.couple → a + b ≡ sum_below 2 (block_cost v.shape.acmod v.shape.lfe v.shape.bw v.shape.couple assign (pointers v.shape v.raw v.t assign)) → c + d ≡ sum_below 6 (block_cost v.shape.acmod v.shape.lfe v.shape.bw v.shape.couple assign (pointers v.shape v.raw v.t assign)) → last ≡ mantissas_at v assign 5 → record { front = side.front + a + b; total = side.total + c + d; last = last } ≡ parts_at v.shape v.raw v.t assign
+parts-are v assign side a b c d last es ef et el =
+    let front : side.front + a + b ≡ (parts_at v.shape v.raw v.t assign).front = let s = ap (λ (p : Parts). p.front) es in omega (arith, s, ef) in
+    let total : side.total + c + d ≡ (parts_at v.shape v.raw v.t assign).total = let s = ap (λ (p : Parts). p.total) es in omega (arith, s, et) in
+    λ i. record { front = front i; total = total i; last = el i }

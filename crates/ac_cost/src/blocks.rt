@@ -1,12 +1,12 @@
 //! What blocks have of runs.
 ghost use Rattle.std.specs.Prelude.{◌≡◌, ◌<◌, ◌≤◌, ◌+◌, ◌*◌, ◌^◌};
-ghost use Rattle.ac_base.specs.Fit.{list_bits, exponent_bits};
+ghost use Rattle.ac_base.specs.Fit.{list_bits, exponent_bits, side_of};
 ghost use Rattle.ac_base.specs.Shape.{IsSpan};
 ghost use Rattle.ac_base.specs.Spans.{IsKind, greatest_kind};
 ghost use Rattle.ac_cost.specs.Runs.{has};
 ghost use Rattle.ac_cost.specs.Sixths.{in_blocks};
 
-use ac_base::{Lead, Run, Span};
+use ac_base::{Lead, Parts, Run, Shape, Span, side_bits};
 use ac_expo::groups;
 
 /// The bits of a list of exponents in so many groups, with chbwcod and gainrng where the channel has them (A/52 5.3.3, 7.1.3).
@@ -57,4 +57,13 @@ pub fn in_blocks(blocks: u8, run: &Run, cost: u32) -> u32
         }
     }
     sum
+}
+
+/// The side bits of the parts, with how many they can be.
+pub fn side(shape: &Shape) -> Parts
+    ensures value { result ≡ side_of shape.now.acmod shape.now.lfe shape.now.couple }
+    ensures front { result.front ≤ 2000 }
+    ensures total { result.total ≤ 2000 }
+{
+    side_bits(shape)
 }

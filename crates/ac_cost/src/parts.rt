@@ -12,11 +12,11 @@ ghost use Rattle.ac_cost.specs.Parts.{parts_at, FitsAt};
 ghost use Rattle.ac_cost.specs.Prices.{AreFew};
 ghost use Rattle.ac_cost.specs.Blocks.{counts_at, exponents_at, mantissas_at};
 
-use ac_base::{Parts, Run, side_bits};
+use ac_base::{Parts, Run};
 use ac_expo::{Assign, runs};
 use ac_mant::{Counts, exact};
 
-use crate::blocks::{exponent_bits, has};
+use crate::blocks::{exponent_bits, has, side};
 use crate::priced::NONE;
 use crate::table::RunTable;
 
@@ -145,7 +145,7 @@ impl RunTable {
         requires low { TakesLow self.now.shape a.now.w }
         ensures value { result ≡ parts_at self.now.shape self.now.raw self.now.t a.now.w }
     {
-        let side = side_bits(&self.shape);
+        let side = side(&self.shape);
         let exponents = self.exponents(&codes(a));
         let mantissas = self.mantissas(a);
         Parts {
