@@ -28,7 +28,7 @@ low-lead acmod bw (Some p) =
     let t : nat_eq (coded_of acmod false (Some p)) (full_of acmod) ≡ false = ne_eqb _ _ (omega arith) in
     rw (f, t) refl
 
-full-kind : (acmod bw : ℕ) (couple : Option (ℕ × ℕ)) (c : ℕ) → c < coded_of acmod false couple → greatest_kind (span_of acmod bw couple c).lead ≡ 3
+pub full-kind : (acmod bw : ℕ) (couple : Option (ℕ × ℕ)) (c : ℕ) → c < coded_of acmod false couple → greatest_kind (span_of acmod bw couple c).lead ≡ 3
 full-kind acmod bw None c l = let t : nat_lt c (full_of acmod) ≡ true = lt-ltb _ _ (omega arith) in rw t refl
 full-kind acmod bw (Some p) c l =
     elim (cases_lt c (full_of acmod)) [

@@ -1,6 +1,6 @@
 pub mod Assigning
 pub mod Bounding
-pub mod Cheapest
+pub mod Fewest
 pub mod Counting
 pub mod Covering
 pub mod Listing

@@ -3,6 +3,7 @@
 #![tactic(auto)]
 
 mod blocks;
+mod least;
 mod laws;
 mod listed;
 mod lists;
@@ -11,6 +12,7 @@ mod priced;
 mod rows;
 mod table;
 
+pub use least::cheapest;
 pub use laws::assignment_laws;
 pub use lists::RunLists;
 pub use table::RunTable;

@@ -1,5 +1,5 @@
 use Rattle.ac_cost.proofs.Bounding.{within}
-use Rattle.ac_cost.proofs.Cheapest.{cheapest}
+use Rattle.ac_cost.proofs.Fewest.{cheapest}
 use Rattle.ac_cost.proofs.Exponents.{greatest}
 use Rattle.ac_cost.proofs.Pricing.{sixths-rise}
 use Rattle.ac_cost.proofs.laws.assignment_laws.Goals as goal

@@ -12,21 +12,22 @@ use Rattle.ac_base.specs.declared.spans.Span.{Span}
 use Rattle.ac_base.specs.declared.spans.Lead.{Lead}
 use Rattle.ac_base.specs.declared.spans.Lead.TheVariants.{Free, Coupled, Coupling, Low}
 use Rattle.ac_base.specs.Counts.{Tally, none, with_one, joined, exact_of}
-use Rattle.ac_base.specs.Fit.{tally_channels, tally_bins, mantissas_in, exponents_in, exponent_bits, list_bits, block_cost, parts_of, FitIn}
+use Rattle.ac_base.specs.Fit.{tally_channels, tally_bins, mantissas_in, exponents_in, exponent_bits, list_bits, block_cost, parts_of, side_of, FitIn}
 use Rattle.ac_base.specs.Shape.{coded_of, full_of, span_of}
 use Rattle.ac_base.specs.Sigma.{sum_below}
 use Rattle.ac_base.specs.Spans.{is_coupling, groups_of, greatest_kind}
 use Rattle.ac_base.specs.Words.{IsWord, word_of}
-use Rattle.ac_base.proofs.ByRuns.{sum_more, sum_none}
+use Rattle.ac_base.proofs.ByRuns.{sum_more, sum_none, sum_zero}
 use Rattle.ac_expo.specs.Raw.{channels, channel_span}
 use Rattle.ac_cost.specs.Runs.{IsAssignmentOf, run_with}
 use Rattle.ac_cost.specs.Pointers.{run_bap, pointers}
 use Rattle.ac_cost.specs.Parts.{parts_at, FitsAt, IsFeasible, cheapest_words, cheapest_assign}
 use Rattle.ac_cost.specs.Laws.{FeasibleMakesCheapestFit}
-use Rattle.ac_cost.proofs.Assigning.{low-lead}
+use Rattle.ac_cost.proofs.Assigning.{low-lead, full-kind}
 use Rattle.ac_cost.proofs.Bounding.{channels_none, channels_more}
 use Rattle.ac_base.proofs.SpanBounds.{span_some}
 use Rattle.ac_cost.proofs.Exponents.{span_of_shape}
+use Rattle.ac_cost.proofs.Covering.{sum_same-below}
 use Rattle.ac_cost.proofs.Pricing.{run_bap-silent}
 use Rattle.ac_cost.proofs.Tallying.{bins_none, bins_more}
 
@@ -183,3 +184,54 @@ module _ (shape : Shape) (raw : List (List (List ℕ))) (t : ℕ) (assign : List
 
 pub cheapest : FeasibleMakesCheapestFit
 cheapest shape raw t feasible = cheapest-fits shape raw t feasible.assign feasible.is_assignment feasible.fits
+
+-- ---- what the cheapest costs
+early-code : (shape : Shape) (c : ℕ) → c < coded_of shape.acmod false shape.couple → slice_index (word_of (cheapest_assign shape) c) 0 ≡ greatest_kind (channel_span shape c).lead
+early-code shape c early =
+    let n = coded_of shape.acmod false shape.couple in
+    let rest : List (List ℕ) = if shape.lfe then low ∷ [] else [] in
+    let long : length (replicate n most) ≡ n = length-replicate n most in
+    let word : word_of (cheapest_assign shape) c ≡ most = get_or-append (replicate n most) rest [] c (omega (arith, long)) ∙ get_or-replicate n c most [] early in
+    ap (λ ws. slice_index ws 0) word ∙ sym (full-kind shape.acmod shape.bw shape.couple c early)
+
+cheap-later : (shape : Shape) (c b : ℕ) → c < channels shape → slice_index (word_of (cheapest_assign shape) c) (suc b) ≡ 0
+cheap-later shape c b l =
+    elim (cheap-word shape.acmod shape.lfe shape.couple shape.bw c l) [
+      | inl e ↦ ap (λ w. slice_index w (suc b)) e ∙ late-code 3 b
+      | inr e ↦ ap (λ w. slice_index w (suc b)) e.0 ∙ late-code 1 b
+    ]
+
+pub cheap-code : (shape : Shape) (c : ℕ) → c < channels shape → slice_index (word_of (cheapest_assign shape) c) 0 ≡ greatest_kind (channel_span shape c).lead
+cheap-code shape c l =
+    let n = coded_of shape.acmod false shape.couple in
+    elim (cases_lt c n) [
+      | inl early ↦ early-code shape c early
+      | inr last ↦
+          let w = last-word shape.acmod shape.lfe shape.couple shape.bw c l last in
+          ap (λ ws. slice_index ws 0) w.0 ∙ sym (ap greatest_kind w.1)
+    ]
+
+later-none : (shape : Shape) (b : ℕ) → exponents_in (channel_span shape) (channels shape) (cheapest_assign shape) (suc b) ≡ 0
+later-none shape b =
+    let bits : ℕ → ℕ = λ c. exponent_bits (slice_index (word_of (cheapest_assign shape) c) (suc b)) (channel_span shape c) in
+    sum_same-below (channels shape) bits (λ c. 0) (λ c l. ap (λ k. exponent_bits k (channel_span shape c)) (cheap-later shape c b l)) ∙ sum_zero (channels shape)
+
+sum_first : (n : ℕ) (f : ℕ → ℕ) → ((k : ℕ) → f (suc k) ≡ 0) → sum_below (suc n) f ≡ f 0
+sum_first zero f none = sum_more 0 f ∙ (let z = sum_none f in omega (arith, z))
+sum_first (suc n) f none = sum_more (suc n) f ∙ (let rest = sum_first n f none in omega (arith, rest, none n))
+
+cheap-cost : (shape : Shape) (raw : List (List (List ℕ))) (n : ℕ) → sum_below (suc n) (block_cost shape.acmod shape.lfe shape.bw shape.couple (cheapest_assign shape) (pointers shape raw 0 (cheapest_assign shape))) ≡ exponents_in (channel_span shape) (channels shape) (cheapest_assign shape) 0
+cheap-cost shape raw n =
+    let f = block_cost shape.acmod shape.lfe shape.bw shape.couple (cheapest_assign shape) (pointers shape raw 0 (cheapest_assign shape)) in
+    let silent = silent-block shape raw (cheapest_assign shape) in
+    let first = sum_first n f (λ k. omega (arith, later-none shape k, silent (suc k))) in
+    omega (arith, first, silent 0)
+
+pub cheapest-is : (shape : Shape) (raw : List (List (List ℕ))) (side : Parts) (exponents : ℕ) → side ≡ side_of shape.acmod shape.lfe shape.couple → exponents ≡ exponents_in (channel_span shape) (channels shape) (cheapest_assign shape) 0 → record { front = side.front + exponents; total = side.total + exponents; last = 0 } ≡ parts_at shape raw 0 (cheapest_assign shape)
+cheapest-is shape raw side exponents es ee =
+    let x = cheap-cost shape raw 1 in
+    let y = cheap-cost shape raw 5 in
+    let front : side.front + exponents ≡ (parts_at shape raw 0 (cheapest_assign shape)).front = let s = ap (λ (p : Parts). p.front) es in omega (arith, s, ee, x) in
+    let total : side.total + exponents ≡ (parts_at shape raw 0 (cheapest_assign shape)).total = let s = ap (λ (p : Parts). p.total) es in omega (arith, s, ee, y) in
+    let last = sym (silent-block shape raw (cheapest_assign shape) 5) in
+    λ i. record { front = front i; total = total i; last = last i }
