@@ -52,7 +52,7 @@ held-is shape raw t c run listed is k inside =
     let low : first_band span ≤ b = bands_rise span.start k inside.0 (omega (arith, inside.1, end)) in
     let high : b ≤ last_band span = bands_rise k (span.end - 1) (omega (arith, inside.1)) (omega (arith, some, end)) in
     let here : bap (slice_index_or listed.mask.m b (pos 0)) listed.mask.floor (psd listed.exps k) t ≡ bap_at p span listed.exps k t =
-        ap₂ (λ m f. bap m f (psd listed.exps k) t) (is.masks b low high) is.floor in
+    ap₂ (λ m f. bap m f (psd listed.exps k) t) (is.masks b low high) is.floor in
     let there = bap_same p span listed.exps (run_exps shape raw c run) (span_of_shape shape c) is.exps k t inside in
     ap (λ x. if t == 0 then 0 else x) (here ∙ there)
 

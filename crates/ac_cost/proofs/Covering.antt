@@ -90,9 +90,10 @@ pub blocks-more : (n : ℕ) (run : Run) (cost : ℕ) → (has run n ≡ true →
 blocks-more n run cost =
     let f : ℕ → ℕ = λ b. if has run b then cost else 0 in
     let e : n + 1 ≡ suc n = omega arith in
-    let more : in_blocks (n + 1) run cost ≡ in_blocks n run cost + f n = ap (λ m. sum_below m f) e ∙ sum_more n f in
-    (λ there. more ∙ ap (λ t. in_blocks n run cost + (if t then cost else 0)) there,
-    λ missing. more ∙ (ap (λ t. in_blocks n run cost + (if t then cost else 0)) missing ∙ (omega arith)))
+    let more : in_blocks (n + 1) run cost ≡ in_blocks n run cost + f n = ap (λ m. sum_below m f) e ∙ sum_more n f in (
+      λ there. more ∙ ap (λ t. in_blocks n run cost + (if t then cost else 0)) there,
+      λ missing. more ∙ (ap (λ t. in_blocks n run cost + (if t then cost else 0)) missing ∙ (omega arith)),
+    )
 
 -- ---- the first run that has a block
 pub first-has : (runs : List Run) (b i : ℕ) (d : Run) → i < length runs → ((j : ℕ) → j < i → has (slice_index_or runs j d) b ≡ false) → has (slice_index_or runs i d) b ≡ true → run_with runs b ≡ slice_index_or runs i d

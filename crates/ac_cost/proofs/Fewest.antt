@@ -63,7 +63,7 @@ one_of : (kind : ℕ) → 1 ≤ kind → kind ≤ 3 → IsOneOf kind
 one_of kind l m =
     elim (cases_eq kind 1) [
       | inl e ↦ inl e
-      | inr other ↦ elim (cases_eq kind 2) [ | inl e ↦ inr (inl e) | inr last ↦ inr (inr (omega arith)) ]
+      | inr other ↦ elim (cases_eq kind 2) [ inl e ↦ inr (inl e) | inr last ↦ inr (inr (omega arith)) ]
     ]
 
 fewer : (span : Span) (kind : ℕ) → 0 < span.end → IsOneOf kind → groups_of 3 span ≤ groups_of kind span
@@ -116,9 +116,10 @@ last-word acmod false couple bw c l last = absurd (omega arith)
 last-word acmod true couple bw c l last =
     let n = coded_of acmod false couple in
     let here : c ≡ n = omega arith in
-    let none : c - n ≡ 0 = omega arith in
-    (get_or-append_right (replicate n most) (low ∷ []) n c [] (length-replicate n most) last ∙ ap (λ k. slice_index_or (low ∷ []) k []) none,
-    ap (λ k. (span_of acmod bw couple k).lead) here ∙ low-lead acmod bw couple)
+    let none : c - n ≡ 0 = omega arith in (
+      get_or-append_right (replicate n most) (low ∷ []) n c [] (length-replicate n most) last ∙ ap (λ k. slice_index_or (low ∷ []) k []) none,
+      ap (λ k. (span_of acmod bw couple k).lead) here ∙ low-lead acmod bw couple,
+    )
 
 cheap-word : (acmod : ℕ) (lfe : Bool) (couple : Option (ℕ × ℕ)) (bw c : ℕ) → c < coded_of acmod lfe couple → HasCheapWord acmod lfe couple bw c
 cheap-word acmod lfe couple bw c l =
@@ -144,10 +145,10 @@ code-fewest span word codes zero some is taken has =
     ]
 code-fewest span word codes (suc b) some is taken has =
     let none : slice_index word (suc b) ≡ 0 =
-        elim has [
-          | inl e ↦ ap (λ w. slice_index w (suc b)) e ∙ late-code 3 b
-          | inr e ↦ ap (λ w. slice_index w (suc b)) e.0 ∙ late-code 1 b
-        ] in
+    elim has [
+      | inl e ↦ ap (λ w. slice_index w (suc b)) e ∙ late-code 3 b
+      | inr e ↦ ap (λ w. slice_index w (suc b)) e.0 ∙ late-code 1 b
+    ] in
     let x = ap (λ k. exponent_bits k span) none in
     omega (arith, x)
 

@@ -5,9 +5,8 @@ ghost use Rattle.ac_base.specs.Spans.{greatest_kind};
 ghost use Rattle.ac_expo.specs.Raw.{channels, channel_span};
 ghost use Rattle.ac_cost.specs.Parts.{parts_at, cheapest_assign};
 
-use ac_base::{Lead, Parts, Shape};
-
 use crate::blocks::{exponent_bits, side};
+use ac_base::{Lead, Parts, Shape};
 
 /// The coarsest kind of exponents that a channel takes: D45, of LFE D15 (A/52 5.4.3.21 to 5.4.3.23).
 fn coarsest(lead: Lead) -> u8

@@ -3,16 +3,18 @@
 #![tactic(auto)]
 
 mod blocks;
-mod least;
 mod laws;
+mod least;
 mod listed;
 mod lists;
 mod parts;
 mod priced;
 mod rows;
 mod table;
+#[cfg(test)]
+mod tests;
 
-pub use least::cheapest;
 pub use laws::assignment_laws;
+pub use least::cheapest;
 pub use lists::RunLists;
 pub use table::RunTable;

@@ -7,11 +7,10 @@ ghost use Rattle.ac_cost.specs.Runs.{IsRunOf};
 ghost use Rattle.ac_cost.specs.Rows.{run_of};
 ghost use Rattle.ac_cost.specs.Lists.{not_listed, IsListed, AreListed};
 
+use crate::rows::{row_count, run_at};
 use ac_alloc::{Mask, Params};
 use ac_base::{Run, Shape};
 use ac_expo::{RawExps, greatest};
-
-use crate::rows::{row_count, run_at};
 
 /// The exponents of a run by bin, and its mask.
 #[derive(Clone, Copy, Debug)]

@@ -2,16 +2,14 @@
 ghost use Rattle.std.specs.Prelude.{◌≡◌, ◌≤◌};
 ghost use Rattle.ac_cost.specs.Records.{exponents, at_offset};
 
-use std::marker::Model;
-
+use crate::listed::{Listed, list_channels};
+use crate::priced::{NONE, price_channels};
+use crate::table::RunTable;
 use ac_alloc::Mask;
 use ac_base::Shape;
 use ac_expo::RawExps;
 use ac_mant::Counts;
-
-use crate::listed::{Listed, list_channels};
-use crate::priced::{NONE, price_channels};
-use crate::table::RunTable;
+use std::marker::Model;
 
 /// What doesn't depend on the offset, for one shape and raw exponents: the list of exponents and the mask of every run of every
 /// coded channel. Contracts see the shape and the raw exponents.

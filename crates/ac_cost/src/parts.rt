@@ -12,13 +12,12 @@ ghost use Rattle.ac_cost.specs.Parts.{parts_at, FitsAt};
 ghost use Rattle.ac_cost.specs.Prices.{AreFew};
 ghost use Rattle.ac_cost.specs.Blocks.{counts_at, exponents_at, mantissas_at};
 
-use ac_base::{Parts, Run};
-use ac_expo::{Assign, runs};
-use ac_mant::{Counts, exact};
-
 use crate::blocks::{exponent_bits, has, side};
 use crate::priced::NONE;
 use crate::table::RunTable;
+use ac_base::{Parts, Run};
+use ac_expo::{Assign, runs};
+use ac_mant::{Counts, exact};
 
 /// The first of these runs that has a block.
 fn find(runs: &[Run], block: u8) -> Run

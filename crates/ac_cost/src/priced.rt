@@ -13,12 +13,11 @@ ghost use Rattle.ac_cost.specs.Rows.{rows_of};
 ghost use Rattle.ac_cost.specs.Lists.{not_listed, IsListed, AreListed};
 ghost use Rattle.ac_cost.specs.Prices.{ArePriced};
 
+use crate::listed::Listed;
+use crate::rows::row_count;
 use ac_alloc::baps;
 use ac_base::{Shape, Span};
 use ac_mant::Counts;
-
-use crate::listed::Listed;
-use crate::rows::row_count;
 
 /// No mantissas.
 pub const NONE: Counts = Counts {
@@ -68,12 +67,7 @@ fn price_channel(shape: &Shape, c: u8, t: u16, lists: &[Listed; 63], out: &mut [
 }
 
 /// Those of all coded channels.
-pub fn price_channels(
-    shape: &Shape,
-    t: u16,
-    lists: &[[Listed; 63]; 7],
-    out: &mut [[Counts; 63]; 7],
-)
+pub fn price_channels(shape: &Shape, t: u16, lists: &[[Listed; 63]; 7], out: &mut [[Counts; 63]; 7])
     requires small { (c row : ℕ) → c < channels shape.now → row < rows_of (channel_span shape.now c).lead
         → AreExponents 0 bins (slice_index_or (slice_index_or lists.now c []) row not_listed).exps }
     requires t { t ≤ 1023 }

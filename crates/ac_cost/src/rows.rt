@@ -12,10 +12,14 @@ pub const ROWS: usize = 63;
 const RANGES: u8 = 21;
 
 /// The first block of each range.
-static FROMS: [u8; 21] = [0, 0, 0, 0, 0, 0, 1, 1, 1, 1, 1, 2, 2, 2, 2, 3, 3, 3, 4, 4, 5];
+static FROMS: [u8; 21] = [
+    0, 0, 0, 0, 0, 0, 1, 1, 1, 1, 1, 2, 2, 2, 2, 3, 3, 3, 4, 4, 5,
+];
 
 /// The block behind its last.
-static TOS: [u8; 21] = [1, 2, 3, 4, 5, 6, 2, 3, 4, 5, 6, 3, 4, 5, 6, 4, 5, 6, 5, 6, 6];
+static TOS: [u8; 21] = [
+    1, 2, 3, 4, 5, 6, 2, 3, 4, 5, 6, 3, 4, 5, 6, 4, 5, 6, 5, 6, 6,
+];
 
 /// The number of the first range from each block on.
 static FIRSTS: [u8; 6] = [0, 6, 11, 15, 18, 20];

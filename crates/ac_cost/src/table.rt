@@ -8,15 +8,13 @@ ghost use Rattle.ac_cost.specs.Prices.{AreFew};
 ghost use Rattle.ac_cost.specs.Pointers.{run_tally};
 ghost use Rattle.ac_cost.specs.Sixths.{run_bits, sixths_by_part};
 
-use std::marker::Model;
-
-use ac_base::{Run, Shape};
-use ac_expo::RawExps;
-use ac_mant::{Counts, sixths};
-
 use crate::blocks::{exponent_bits, has, in_blocks};
 use crate::lists::RunLists;
 use crate::rows::row;
+use ac_base::{Run, Shape};
+use ac_expo::RawExps;
+use ac_mant::{Counts, sixths};
+use std::marker::Model;
 
 /// For one shape, raw exponents and offset: what every run of every coded channel costs. Contracts see these three.
 #[derive(Drop)]

@@ -7,5 +7,5 @@ use Rattle.ac_cost.proofs.least.fewest_exponents.Given as goal
 abbrev pub invariant-loop-c : goal.invariant-loop-c
 invariant-loop-c l = record {
   value : l.bits ≡ exponents_in (channel_span l.shape) l.c (cheapest_assign l.shape) 0;
-  bound : l.bits ≤ 600 * l.c
+  bound : l.bits ≤ 600 * l.c;
 }

@@ -9,5 +9,5 @@ abbrev pub invariant-loop-row : goal.invariant-loop-row
 invariant-loop-row l = record {
   done : (row : ℕ) → row < l.row → IsListed l.shape l.raw.e l.c (run_of row) (slice_index_or l.out row not_listed);
   small : (row : ℕ) → row < l.row → AreExponents 0 bins (slice_index_or l.out row not_listed).exps;
-  long : length l.out ≡ 63
+  long : length l.out ≡ 63;
 }

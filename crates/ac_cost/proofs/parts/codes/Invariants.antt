@@ -6,5 +6,5 @@ abbrev pub invariant-loop-c : goal.invariant-loop-c
 invariant-loop-c l = record {
   value : (c : ℕ) → c < l.c → slice_index_or l.codes c [] ≡ word_of l.a.w c;
   words : (c : ℕ) → c < l.c → IsWord (word_of l.a.w c);
-  long : length l.codes ≡ 7
+  long : length l.codes ≡ 7;
 }

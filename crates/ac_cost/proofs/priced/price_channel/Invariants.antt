@@ -10,5 +10,5 @@ abbrev pub invariant-loop-row : goal.invariant-loop-row
 invariant-loop-row l = record {
   done : (row : ℕ) → row < l.row → (raw : List (List (List ℕ))) (run : Run) → IsListed l.shape raw l.c run (slice_index_or l.lists row not_listed)
       → tally (slice_index_or l.out row no_counts) ≡ run_tally l.shape raw l.t l.c run;
-  long : length l.out ≡ 63
+  long : length l.out ≡ 63;
 }

@@ -7,5 +7,5 @@ abbrev pub invariant-loop-c : goal.invariant-loop-c
 invariant-loop-c l = record {
   done : (c : ℕ) → c < l.c → (raw : List (List (List ℕ))) → AreListed l.shape raw c (slice_index_or l.lists c [])
       → ArePriced l.shape raw l.t c (slice_index_or l.out c []);
-  long : length l.out ≡ 7
+  long : length l.out ≡ 7;
 }

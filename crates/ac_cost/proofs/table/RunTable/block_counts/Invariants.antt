@@ -9,5 +9,5 @@ use Rattle.ac_cost.proofs.table.RunTable.block_counts.Given as goal
 abbrev pub invariant-loop-c : goal.invariant-loop-c
 invariant-loop-c l = record {
   value : tally l.counts ≡ tally_channels (channel_span l.self.shape) l.c (λ c. pointers l.self.shape l.self.raw l.self.t l.a.w c l.block);
-  bound : AreFew l.c l.counts
+  bound : AreFew l.c l.counts;
 }

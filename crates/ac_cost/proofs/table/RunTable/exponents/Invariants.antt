@@ -6,5 +6,5 @@ abbrev pub invariant-loop-block : goal.invariant-loop-block
 invariant-loop-block l = record {
   value : (b : ℕ) → b < l.block → slice_index l.bits b ≡ exponents_at l.self l.codes b;
   bound : (b : ℕ) → slice_index l.bits b ≤ 2 ^ 16;
-  long : length l.bits ≡ 6
+  long : length l.bits ≡ 6;
 }

@@ -24,9 +24,9 @@ returns c =
     let few = coded-few v.shape in
     let assign = c.args.a.now.w in
     let side : c.side-side.result ≡ side_of v.shape.acmod v.shape.lfe v.shape.couple =
-        c.side-side.ensures.value ∙ ap (λ (u : AtOffset). side_of u.shape.acmod u.shape.lfe u.shape.couple) c.self.view_is in
+    c.side-side.ensures.value ∙ ap (λ (u : AtOffset). side_of u.shape.acmod u.shape.lfe u.shape.couple) c.self.view_is in
     let exps : (b : ℕ) → b < 6 → slice_index c.exponents-exponents.result b ≡ exponents_at v assign b =
-        λ b l. c.exponents-exponents.ensures.value b l ∙ exponents-same v c.codes.result assign b few c.codes.ensures.value in
+    λ b l. c.exponents-exponents.ensures.value b l ∙ exponents-same v c.codes.result assign b few c.codes.ensures.value in
     let front = blocks-are v assign 2 c.exponents-exponents.result c.mantissas-mantissas.result (omega arith) exps c.mantissas-mantissas.ensures.value in
     let whole = blocks-are v assign 6 c.exponents-exponents.result c.mantissas-mantissas.result (omega arith) exps c.mantissas-mantissas.ensures.value in
     record {
