@@ -1,19 +1,16 @@
 -- What assignments take, and their runs.
-use Rattle.std.proofs.Common.{◌≡◌, ◌⊎◌, ℕ, zero, suc, ◌+◌, ◌<◌, ◌≤◌, Bool, true, false, List, [], ◌∷◌, slice_index, slice_index_or, Option, Some, None, refl, sym, ap, ◌∙◌, subst, inl, inr, arith}
+use Rattle.std.proofs.Common.{◌≡◌, ℕ, ◌<◌, ◌≤◌, Bool, true, false, List, [], slice_index, slice_index_or, Option, Some, None, refl, sym, ap, ◌∙◌, subst, inl, inr, arith}
 use Rattle.std.specs.Prelude.{nat_le, nat_lt, nat_eq, is_some, if◌then◌else◌}
 use Rattle.ac_base.proofs.Tests.{all_below-at}
-use Rattle.std.specs.List.{All, AllByRecursion}
 use Rattle.std.proofs.lemmas.Bool.{cases_lt, ne_eqb, lt-ltb, le-ltb, eq-eqb, leb-true}
 use Rattle.std.proofs.lemmas.List.Elements.{recursion_from_All}
-use Rattle.ac_base.specs.declared.runs.Run.{Run}
 use Rattle.ac_base.specs.declared.shapes.Shape.{Shape}
-use Rattle.ac_base.specs.declared.spans.Lead.{Lead}
-use Rattle.ac_base.specs.declared.spans.Lead.TheVariants.{Free, Coupled, Coupling, Low}
+use Rattle.ac_base.specs.declared.spans.Lead.TheVariants.{Low}
 use Rattle.ac_base.specs.Shape.{full_of, coded_of, span_of}
 use Rattle.ac_base.specs.Spans.{greatest_kind}
 use Rattle.ac_base.specs.Words.{IsWord, IsStretch, runs_of, word_of}
 use Rattle.ac_base.proofs.Stretches.{tile, are_stretches}
-use Rattle.ac_expo.specs.Raw.{channels, channel_span}
+use Rattle.ac_expo.specs.Raw.{channels}
 use Rattle.ac_cost.specs.Runs.{IsRunOf, IsAssignmentOf, TakesLow, run_with}
 use Rattle.ac_cost.proofs.Covering.{one-of}
 

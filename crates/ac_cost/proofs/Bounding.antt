@@ -1,23 +1,22 @@
 -- The sixths of an assignment are within six times its parts.
-use Rattle.std.proofs.Common.{◌≡◌, ◌≢◌, ℕ, zero, suc, ◌+◌, ◌-◌, ◌*◌, ◌<◌, ◌≤◌, Bool, true, false, List, [], ◌∷◌, slice_index, slice_index_or, refl, sym, ap, ap₂, ◌∙◌, inl, inr, subst, arith}
-use Rattle.std.specs.Prelude.{if◌then◌else◌, ◌==◌, nat_lt}
+use Rattle.std.proofs.Common.{◌≡◌, ◌≢◌, ℕ, zero, suc, ◌+◌, ◌*◌, ◌<◌, ◌≤◌, true, false, List, [], ◌∷◌, refl, sym, ap, ◌∙◌, inl, inr, subst, arith}
+use Rattle.std.specs.Prelude.{◌==◌, nat_lt}
 use Rattle.std.proofs.lemmas.Bool.{cases_eq, ne_eqb, lt-ltb}
 use Rattle.ac_base.specs.declared.runs.Run.{Run}
 use Rattle.ac_base.specs.declared.shapes.Shape.{Shape}
 use Rattle.ac_base.specs.declared.spans.Span.{Span}
-use Rattle.ac_base.specs.Counts.{Tally, none, joined, exact_of, sixths_of}
-use Rattle.ac_base.specs.Fit.{tally_channels, tally_span, mantissas_in, exponent_bits, run_bits, all_run_bits, mantissa_bits, side_of}
+use Rattle.ac_base.specs.Counts.{Tally, none, joined, sixths_of}
+use Rattle.ac_base.specs.Fit.{tally_channels, tally_span, mantissas_in, run_bits}
 use Rattle.ac_base.specs.Sigma.{sum_below}
-use Rattle.ac_base.specs.SideBits.{side_front, side_total}
 use Rattle.ac_base.specs.Words.{Tile, runs_of, word_of}
-use Rattle.ac_base.proofs.ByRuns.{sum_more, sum_none, sum_both, sum_same, sum_swap, parts_by_runs}
+use Rattle.ac_base.proofs.ByRuns.{sum_more, sum_none, sum_both, sum_swap, parts_by_runs}
 use Rattle.ac_base.proofs.Stretches.{tile}
 use Rattle.ac_base.proofs.Tallies.{sixths_within}
 use Rattle.ac_expo.specs.Raw.{channels, channel_span}
-use Rattle.ac_cost.specs.Runs.{IsAssignmentOf, has, run_with}
+use Rattle.ac_cost.specs.Runs.{IsAssignmentOf, run_with}
 use Rattle.ac_cost.specs.Pointers.{run_tally, pointers}
 use Rattle.ac_cost.specs.Parts.{parts_at}
-use Rattle.ac_cost.specs.Sixths.{part_of, bits_in, in_part, runs_sixths, assign_sixths}
+use Rattle.ac_cost.specs.Sixths.{part_of, in_part, runs_sixths, assign_sixths}
 use Rattle.ac_cost.specs.Laws.{SixthsAreWithinParts}
 use Rattle.ac_cost.proofs.Covering.{total, at, one-at, by-blocks, sum_same-below}
 

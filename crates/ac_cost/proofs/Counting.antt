@@ -1,20 +1,19 @@
 -- Counts of runs.
-use Rattle.std.proofs.Common.{◌≡◌, ℕ, zero, suc, ◌+◌, ◌-◌, ◌*◌, ◌<◌, ◌≤◌, ℤ, pos, Bool, true, false, List, [], ◌∷◌, length, slice_index, slice_index_or, refl, sym, ap, ap₂, ◌∙◌, inl, inr, subst, arith}
-use Rattle.std.specs.Prelude.{if◌then◌else◌, ◌==◌, min}
+use Rattle.std.proofs.Common.{◌≡◌, ℕ, suc, ◌+◌, ◌-◌, ◌<◌, ◌≤◌, pos, Bool, true, false, List, slice_index, slice_index_or, sym, ap, ap₂, ◌∙◌, subst, arith}
+use Rattle.std.specs.Prelude.{if◌then◌else◌, ◌==◌}
 use Rattle.ac_base.specs.declared.runs.Run.{Run}
 use Rattle.ac_base.specs.declared.shapes.Shape.{Shape}
 use Rattle.ac_base.specs.declared.spans.Span.{Span}
 use Rattle.ac_base.specs.Allocation.{masktab_list}
 use Rattle.ac_base.specs.Counts.{Tally, with_one}
 use Rattle.ac_base.specs.Fit.{tally_bins, tally_span}
-use Rattle.ac_base.specs.Shape.{IsSpan}
 use Rattle.ac_base.specs.Spans.{IsIn}
 use Rattle.ac_base.proofs.AllocationTables.{baps_small}
 use Rattle.ac_base.proofs.SpanBounds.{span_some, span_end}
-use Rattle.ac_expo.specs.Raw.{channels, channel_span}
-use Rattle.ac_alloc.specs.Codes.{encoder_params, floor_of}
+use Rattle.ac_expo.specs.Raw.{channel_span}
+use Rattle.ac_alloc.specs.Codes.{encoder_params}
 use Rattle.ac_alloc.specs.Integration.{psd}
-use Rattle.ac_alloc.specs.Masking.{mask, first_band, last_band}
+use Rattle.ac_alloc.specs.Masking.{first_band, last_band}
 use Rattle.ac_alloc.specs.Pointers.{address, level, bap, bap_at}
 use Rattle.ac_alloc.proofs.Spans.{bands_rise}
 use Rattle.std.specs.Prelude.{◌^◌}

@@ -2,14 +2,13 @@
 use Rattle.std.proofs.Common.{◌≡◌, ℕ, zero, suc, ◌+◌, ◌<◌, ◌≤◌, Bool, true, false, List, [], ◌∷◌, refl, sym, ap, ◌∙◌, inl, inr, arith}
 use Rattle.std.specs.Prelude.{if◌then◌else◌, nat_lt, nat_le, ◌&&◌}
 use Rattle.std.proofs.Common.{length, slice_index_or}
-use Rattle.std.specs.List.{All, AllByRecursion}
-use Rattle.std.proofs.lemmas.List.Elements.{recursion_from_All}
+use Rattle.std.specs.List.{AllByRecursion}
 use Rattle.ac_base.proofs.Stretches.{tile}
 use Rattle.std.proofs.lemmas.Bool.{cases_lt}
 use Rattle.std.proofs.lemmas.Bool.Decides.{nat_tests}
 use Rattle.ac_base.specs.declared.runs.Run.{Run}
 use Rattle.ac_base.specs.Sigma.{sum_below}
-use Rattle.ac_base.specs.Words.{Tile, IsWord, IsRun, runs_of}
+use Rattle.ac_base.specs.Words.{Tile}
 use Rattle.ac_base.proofs.ByRuns.{sum_more, sum_none, sum_both, sum_zero}
 use Rattle.ac_cost.specs.Runs.{has, run_with}
 use Rattle.ac_cost.specs.Sixths.{in_blocks}

@@ -1,17 +1,15 @@
 -- The exponents of runs, and the spans of channels.
-use Rattle.std.proofs.Common.{◌≡◌, ℕ, ◌<◌, ◌≤◌, Bool, true, false, List, [], slice_index, slice_index_or, Option, Some, None, refl, arith}
+use Rattle.std.proofs.Common.{ℕ, ◌≤◌, Bool, true, false, List, [], slice_index_or, Option, Some, None, refl, arith}
 use Rattle.std.specs.Prelude.{if◌then◌else◌, nat_lt, nat_eq}
 use Rattle.std.proofs.lemmas.List.FromFn.{get_or-map-range_with_len}
 use Rattle.ac_base.specs.declared.runs.Run.{Run}
 use Rattle.ac_base.specs.declared.shapes.Shape.{Shape}
 use Rattle.ac_base.specs.declared.spans.Span.{Span}
-use Rattle.ac_base.specs.Spans.{IsIn}
 use Rattle.ac_base.specs.Shape.{IsSpan, IsCoupling, full_of, full_span, next_span, low_span, span_of}
 use Rattle.ac_base.proofs.SpanBounds.{span_end}
-use Rattle.ac_expo.specs.Raw.{channels, channel_span}
+use Rattle.ac_expo.specs.Raw.{channel_span}
 use Rattle.ac_expo.specs.Greatest.{exponent_of, IsByFormula}
 use Rattle.ac_expo.proofs.Formula.{formula}
-use Rattle.ac_cost.specs.Runs.{IsRunOf}
 use Rattle.ac_cost.specs.Pointers.{run_exps}
 use Rattle.ac_cost.specs.Laws.{RunExponentsAreGreatest}
 

@@ -1,27 +1,26 @@
 -- No assignment costs less than the cheapest at offset 0.
-use Rattle.std.proofs.Common.{◌≡◌, ◌≢◌, ◌⊎◌, ℕ, zero, suc, ◌+◌, ◌-◌, ◌*◌, ◌/◌, ◌<◌, ◌≤◌, Bool, true, false, List, [], ◌∷◌, ◌++◌, length, replicate, slice_index, slice_index_or, Option, Some, None, refl, sym, ap, ap₂, ◌∙◌, inl, inr, subst, arith}
-use Rattle.std.specs.Prelude.{if◌then◌else◌, ◌==◌, nat_lt, nat_eq}
-use Rattle.std.proofs.lemmas.Bool.{cases_eq, cases_lt, ne_eqb, eq-eqb, lt-ltb, le-ltb}
+use Rattle.std.proofs.Common.{◌≡◌, ◌⊎◌, ℕ, zero, suc, ◌+◌, ◌-◌, ◌/◌, ◌<◌, ◌≤◌, Bool, true, false, List, [], ◌∷◌, length, replicate, slice_index, slice_index_or, Option, refl, sym, ap, ap₂, ◌∙◌, inl, inr, subst, arith}
+use Rattle.std.specs.Prelude.{if◌then◌else◌, ◌==◌}
+use Rattle.std.proofs.lemmas.Bool.{cases_eq, cases_lt, ne_eqb}
 use Rattle.std.proofs.Math.ListN.{get_or-append}
 use Rattle.std.proofs.Math.ListN.{length-replicate}
 use Rattle.std.proofs.lemmas.List.{get_or-append_right, get_or-replicate}
-use Rattle.ac_base.specs.declared.runs.Run.{Run}
 use Rattle.ac_base.specs.declared.shapes.Shape.{Shape}
 use Rattle.ac_base.specs.declared.sizes.Parts.{Parts}
 use Rattle.ac_base.specs.declared.spans.Span.{Span}
 use Rattle.ac_base.specs.declared.spans.Lead.{Lead}
 use Rattle.ac_base.specs.declared.spans.Lead.TheVariants.{Free, Coupled, Coupling, Low}
-use Rattle.ac_base.specs.Counts.{Tally, none, with_one, joined, exact_of}
-use Rattle.ac_base.specs.Fit.{tally_channels, tally_bins, mantissas_in, exponents_in, exponent_bits, list_bits, block_cost, parts_of, side_of, FitIn}
-use Rattle.ac_base.specs.Shape.{coded_of, full_of, span_of}
+use Rattle.ac_base.specs.Counts.{none, with_one, joined, exact_of}
+use Rattle.ac_base.specs.Fit.{tally_channels, tally_bins, mantissas_in, exponents_in, exponent_bits, list_bits, block_cost, side_of}
+use Rattle.ac_base.specs.Shape.{coded_of, span_of}
 use Rattle.ac_base.specs.Sigma.{sum_below}
 use Rattle.ac_base.specs.Spans.{is_coupling, groups_of, greatest_kind}
 use Rattle.ac_base.specs.Words.{IsWord, word_of}
 use Rattle.ac_base.proofs.ByRuns.{sum_more, sum_none, sum_zero}
 use Rattle.ac_expo.specs.Raw.{channels, channel_span}
 use Rattle.ac_cost.specs.Runs.{IsAssignmentOf, run_with}
-use Rattle.ac_cost.specs.Pointers.{run_bap, pointers}
-use Rattle.ac_cost.specs.Parts.{parts_at, FitsAt, IsFeasible, cheapest_words, cheapest_assign}
+use Rattle.ac_cost.specs.Pointers.{pointers}
+use Rattle.ac_cost.specs.Parts.{parts_at, FitsAt, cheapest_words, cheapest_assign}
 use Rattle.ac_cost.specs.Laws.{FeasibleMakesCheapestFit}
 use Rattle.ac_cost.proofs.Assigning.{low-lead, full-kind}
 use Rattle.ac_cost.proofs.Bounding.{channels_none, channels_more}

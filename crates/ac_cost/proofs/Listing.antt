@@ -1,16 +1,16 @@
 -- What is held of the runs of a channel.
-use Rattle.std.proofs.Common.{◌≡◌, ℕ, zero, suc, ◌+◌, ◌-◌, ◌*◌, ◌/◌, ◌%◌, ◌<◌, ◌≤◌, ◌⊎◌, ℤ, pos, Bool, true, false, List, [], ◌∷◌, length, slice_index, slice_index_or, set, get_or-set_same, get_or-set_other, refl, sym, ap, ap₂, ◌∙◌, inl, inr, subst, arith}
-use Rattle.std.specs.Prelude.{nat_eq, nat_lt, nat_le, ◌&&◌, ◌||◌, if◌then◌else◌}
+use Rattle.std.proofs.Common.{◌≡◌, ℕ, ◌+◌, ◌-◌, ◌*◌, ◌/◌, ◌%◌, ◌<◌, ◌≤◌, pos, Bool, true, List, [], length, slice_index, slice_index_or, set, get_or-set_same, get_or-set_other, refl, sym, ap, ◌∙◌, inl, inr, subst, arith}
+use Rattle.std.specs.Prelude.{nat_eq, nat_lt, ◌&&◌, if◌then◌else◌}
 use Rattle.std.proofs.Common.{replicate}
 use Rattle.std.proofs.lemmas.Bool.{cases_eq, cases_lt, eqb-true, and_parts, lt-ltb, ltb-true}
 use Rattle.ac_base.specs.declared.runs.Run.{Run}
 use Rattle.ac_base.specs.declared.shapes.Shape.{Shape}
 use Rattle.ac_base.specs.declared.spans.Span.{Span}
-use Rattle.ac_base.specs.Spans.{IsIn, greatest_kind}
+use Rattle.ac_base.specs.Spans.{IsIn}
 use Rattle.ac_base.specs.Words.{IsRun}
 use Rattle.ac_base.proofs.Tests.{all_below, all_below-at}
 use Rattle.ac_expo.specs.Raw.{channels, channel_span}
-use Rattle.ac_expo.specs.Greatest.{IsByFormula, IsGreatest}
+use Rattle.ac_expo.specs.Greatest.{IsByFormula}
 use Rattle.ac_expo.proofs.Minima.{small_start}
 use Rattle.ac_alloc.specs.declared.mask.Mask.{Mask}
 use Rattle.ac_alloc.specs.declared.params.Params.{Params}

@@ -1,10 +1,9 @@
 -- Laws of what runs and assignments cost.
-use Rattle.std.proofs.Common.{◌≡◌, ◌≢◌, ℕ, zero, suc, ◌+◌, ◌-◌, ◌*◌, ◌<◌, ◌≤◌, Bool, true, false, List, [], ◌∷◌, slice_index, slice_index_or, refl, sym, ap, ap₂, ◌∙◌, inl, inr, subst, arith, cond, eqb}
-use Rattle.std.specs.Prelude.{if◌then◌else◌, ◌==◌, nat_lt, nat_le, ◌&&◌, min}
-use Rattle.std.proofs.lemmas.Bool.{cases_eq, eqb-true, ne_eqb}
+use Rattle.std.proofs.Common.{◌≡◌, ℕ, zero, suc, ◌-◌, ◌<◌, ◌≤◌, Bool, true, false, List, slice_index, refl, arith}
+use Rattle.std.specs.Prelude.{if◌then◌else◌, ◌==◌}
+use Rattle.std.proofs.lemmas.Bool.{ne_eqb}
 use Rattle.ac_base.specs.declared.runs.Run.{Run}
 use Rattle.ac_base.specs.declared.shapes.Shape.{Shape}
-use Rattle.ac_base.specs.declared.spans.Span.{Span}
 use Rattle.ac_base.specs.Allocation.{masktab_list}
 use Rattle.ac_base.specs.Counts.{sixths_of}
 use Rattle.ac_base.specs.Sigma.{sum_below}
@@ -12,15 +11,15 @@ use Rattle.ac_base.specs.Spans.{IsIn}
 use Rattle.ac_base.proofs.AllocationTables.{baps_small}
 use Rattle.ac_base.proofs.ByRuns.{sum_more, sum_none}
 use Rattle.ac_base.proofs.SpanBounds.{span_some}
-use Rattle.ac_expo.specs.Raw.{channels, channel_span}
+use Rattle.ac_expo.specs.Raw.{channel_span}
 use Rattle.ac_alloc.specs.Codes.{encoder_params, IsParams, floor_of}
 use Rattle.ac_alloc.specs.Integration.{psd}
 use Rattle.ac_alloc.specs.Masking.{mask}
 use Rattle.ac_alloc.specs.Pointers.{address, level, bap_at}
 use Rattle.ac_alloc.proofs.Rising.{bap_rises}
-use Rattle.ac_cost.specs.Runs.{IsRunOf, has}
+use Rattle.ac_cost.specs.Runs.{has}
 use Rattle.ac_cost.specs.Pointers.{run_exps, run_bap, run_tally}
-use Rattle.ac_cost.specs.Sixths.{bits_in, in_blocks, in_part, run_sixths}
+use Rattle.ac_cost.specs.Sixths.{in_blocks, in_part}
 use Rattle.ac_cost.specs.Laws.{SixthsRise}
 use Rattle.ac_cost.proofs.Exponents.{span_of_shape}
 use Rattle.ac_cost.proofs.Tallying.{bins_rise}

@@ -1,15 +1,14 @@
 -- Exponents outside a span aren't read: lists that agree on its bins have the same masks and pointers.
-use Rattle.std.proofs.Common.{◌≡◌, ℕ, zero, suc, ◌+◌, ◌-◌, ◌*◌, ◌<◌, ◌≤◌, Bool, true, false, List, slice_index, refl, sym, ap, ◌∙◌, inl, inr, arith}
-use Rattle.std.specs.Prelude.{if◌then◌else◌, nat_lt, nat_le, ◌&&◌}
+use Rattle.std.proofs.Common.{◌≡◌, ℕ, zero, suc, ◌+◌, ◌-◌, ◌*◌, ◌<◌, ◌≤◌, List, slice_index, sym, ap, ◌∙◌, inl, inr, arith}
 use Rattle.std.proofs.lemmas.Bool.{cases_lt}
 use Rattle.ac_base.specs.declared.spans.Span.{Span}
 use Rattle.ac_base.specs.Allocation.{bndtab_list, masktab_list, hth_list}
 use Rattle.ac_base.specs.Shape.{IsSpan}
 use Rattle.ac_base.specs.Spans.{IsIn}
-use Rattle.ac_base.proofs.SpanBounds.{span_some, span_end}
+use Rattle.ac_base.proofs.SpanBounds.{span_some}
 use Rattle.ac_alloc.specs.declared.params.Params.{Params}
 use Rattle.ac_alloc.specs.Codes.{knee, floor_of}
-use Rattle.ac_alloc.specs.Integration.{psd, logadd, folded, meets, first_bin, last_bin, bndpsd}
+use Rattle.ac_alloc.specs.Integration.{psd, logadd, folded, first_bin, last_bin, bndpsd}
 use Rattle.ac_alloc.specs.Excitation.{excite_by}
 use Rattle.ac_alloc.specs.Masking.{mask, masked, first_band}
 use Rattle.ac_alloc.specs.Pointers.{bap, bap_at}

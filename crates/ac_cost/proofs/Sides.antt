@@ -1,13 +1,12 @@
 -- How great side bits can be.
-use Rattle.std.proofs.Common.{◌≡◌, ℕ, ◌+◌, ◌-◌, ◌*◌, ◌<◌, ◌≤◌, Bool, true, false, List, [], ◌∷◌, slice_index, Option, Some, None, refl, arith}
+use Rattle.std.proofs.Common.{ℕ, ◌-◌, ◌*◌, ◌≤◌, Bool, true, false, Option, Some, None, refl, arith}
 use Rattle.std.specs.Prelude.{◌&&◌, if◌then◌else◌, is_some, sum, nat_le, nat_lt}
 use Rattle.std.proofs.lemmas.Bool.{leb-true}
 use Rattle.std.proofs.lemmas.Nat.{mul-le}
 use Rattle.ac_base.specs.declared.shapes.Shape.{Shape}
-use Rattle.ac_base.specs.declared.sizes.Parts.{Parts}
 use Rattle.ac_base.specs.Fit.{side_of}
 use Rattle.ac_base.specs.Shape.{IsCoupling, full_of, is_stereo, has_center, has_surround, subbands, rematrix_bands}
-use Rattle.ac_base.specs.SideBits.{when, head_rows, first_block_rows, later_block_rows, tail_rows, side_front, side_total}
+use Rattle.ac_base.specs.SideBits.{when, head_rows, first_block_rows, later_block_rows, side_front, side_total}
 use Rattle.ac_base.proofs.Tests.{all_below-at}
 
 when-le : (there : Bool) (width : ℕ) → when there width ≤ width

@@ -1,11 +1,10 @@
 -- Costs of blocks, channel by channel, and of the parts by blocks.
-use Rattle.std.proofs.Common.{◌≡◌, ℕ, zero, suc, ◌+◌, ◌*◌, ◌<◌, ◌≤◌, Bool, List, [], ◌∷◌, slice_index, slice_index_or, refl, sym, ap, ap₂, ◌∙◌, subst, arith}
+use Rattle.std.proofs.Common.{◌≡◌, ℕ, suc, ◌+◌, ◌<◌, ◌≤◌, List, [], slice_index, slice_index_or, sym, ap, ap₂, ◌∙◌, arith}
 use Rattle.ac_base.specs.declared.runs.Run.{Run}
-use Rattle.ac_base.specs.declared.shapes.Shape.{Shape}
 use Rattle.ac_base.specs.declared.spans.Span.{Span}
 use Rattle.ac_base.specs.declared.sizes.Parts.{Parts}
 use Rattle.ac_base.specs.Counts.{Tally, joined}
-use Rattle.ac_base.specs.Fit.{exponents_in, exponent_bits, tally_channels, tally_span, block_cost, side_of}
+use Rattle.ac_base.specs.Fit.{exponents_in, exponent_bits, tally_channels, block_cost, side_of}
 use Rattle.ac_base.specs.Sigma.{sum_below}
 use Rattle.ac_base.specs.Words.{word_of, runs_of}
 use Rattle.ac_base.proofs.ByRuns.{sum_more, sum_none, sum_both}
@@ -17,8 +16,8 @@ use Rattle.ac_cost.specs.Pointers.{run_tally, pointers}
 use Rattle.ac_cost.specs.Parts.{parts_at}
 use Rattle.ac_cost.specs.Prices.{AreFew}
 use Rattle.ac_cost.specs.Records.{AtOffset}
-use Rattle.ac_cost.specs.Blocks.{counts_at, exponents_at, mantissas_at}
-use Rattle.ac_cost.proofs.Bounding.{channels_none, channels_more}
+use Rattle.ac_cost.specs.Blocks.{exponents_at, mantissas_at}
+use Rattle.ac_cost.proofs.Bounding.{channels_more}
 use Rattle.ac_cost.proofs.Covering.{sum_same-below}
 
 pub exponents-none : (span : ℕ → Span) (assign : List (List ℕ)) (b : ℕ) → 0 ≡ exponents_in span 0 assign b

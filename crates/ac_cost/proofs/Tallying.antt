@@ -1,11 +1,10 @@
 -- Tallies of bins: what they depend on, how great they are, and that sixths rise with the pointers.
-use Rattle.std.proofs.Common.{◌≡◌, ℕ, zero, suc, ◌+◌, ◌-◌, ◌*◌, ◌<◌, ◌≤◌, Bool, true, false, List, [], ◌∷◌, length, slice_index, refl, sym, ap, ap₂, ◌∙◌, inl, inr, subst, arith, cond, eqb}
-use Rattle.std.specs.Prelude.{if◌then◌else◌, nat_le, nat_eq, ◌==◌, min}
+use Rattle.std.proofs.Common.{◌≡◌, ℕ, zero, suc, ◌+◌, ◌*◌, ◌<◌, ◌≤◌, List, [], ◌∷◌, slice_index, refl, sym, ap, ap₂, ◌∙◌, inl, inr, subst, arith, eqb}
+use Rattle.std.specs.Prelude.{nat_le, nat_eq}
 use Rattle.std.proofs.lemmas.Bool.{leb-true, eqb-true, cases_lt, cond_both}
 use Rattle.std.proofs.lemmas.List.{get_or_past}
-use Rattle.ac_base.specs.declared.spans.Span.{Span}
-use Rattle.ac_base.specs.Counts.{Tally, none, with_one, one_if, joined, code_width, sixths_of}
-use Rattle.ac_base.specs.Fit.{tally_bins, tally_span}
+use Rattle.ac_base.specs.Counts.{Tally, none, with_one, one_if, code_width, sixths_of}
+use Rattle.ac_base.specs.Fit.{tally_bins}
 use Rattle.ac_base.proofs.Tests.{all_below-at}
 use Rattle.ac_base.proofs.AllocationTables.{all_rises}
 

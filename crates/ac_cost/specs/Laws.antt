@@ -1,5 +1,5 @@
 -- Laws of what assignments cost: this project's own.
-use Rattle.std.specs.Prelude.{ℕ, ◌≡◌, ◌*◌, ◌<◌, ◌≤◌, List, [], slice_index_or}
+use Rattle.std.specs.Prelude.{ℕ, ◌*◌, ◌≤◌, List, [], slice_index_or}
 use Rattle.ac_base.specs.declared.runs.Run.{Run}
 use Rattle.ac_base.specs.declared.shapes.Shape.{Shape}
 use Rattle.ac_base.specs.Fit.{FitIn}

@@ -1,10 +1,10 @@
 -- What the code holds of the runs of a frame: their lists of exponents and their masks, which don't depend on the offset.
-use Rattle.std.specs.Prelude.{◌≡◌, ℕ, ◌<◌, ◌≤◌, ℤ, pos, List, [], slice_index, slice_index_or}
+use Rattle.std.specs.Prelude.{◌≡◌, ℕ, ◌<◌, ◌≤◌, pos, List, [], slice_index, slice_index_or}
 use Rattle.ac_base.specs.declared.runs.Run.{Run}
 use Rattle.ac_base.specs.declared.shapes.Shape.{Shape}
 use Rattle.ac_base.specs.Spans.{IsIn}
 use Rattle.ac_base.specs.Allocation.{bins}
-use Rattle.ac_expo.specs.Raw.{channels, channel_span}
+use Rattle.ac_expo.specs.Raw.{channel_span}
 use Rattle.ac_alloc.specs.Codes.{encoder_params, floor_of}
 use Rattle.ac_alloc.specs.Integration.{AreExponents}
 use Rattle.ac_alloc.specs.Masking.{mask, first_band, last_band}

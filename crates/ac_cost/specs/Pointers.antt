@@ -4,7 +4,6 @@ use Rattle.std.specs.Prelude.{ℕ, ◌==◌, if◌then◌else◌, List, [], map,
 use Rattle.std.specs.List.{range_with_len}
 use Rattle.ac_base.specs.declared.runs.Run.{Run}
 use Rattle.ac_base.specs.declared.shapes.Shape.{Shape}
-use Rattle.ac_base.specs.declared.spans.Span.{Span}
 use Rattle.ac_base.specs.Allocation.{bins}
 use Rattle.ac_base.specs.Counts.{Tally}
 use Rattle.ac_base.specs.Fit.{tally_span}

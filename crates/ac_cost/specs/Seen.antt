@@ -1,11 +1,8 @@
 -- What contracts see of the lists and of the table of runs, and what the code keeps of them.
-use Rattle.std.specs.Prelude.{ℕ, ◌<◌, ◌≤◌, List, [], slice_index_or}
-use Rattle.ac_base.specs.declared.shapes.Shape.{Shape}
-use Rattle.ac_base.specs.Allocation.{bins}
+use Rattle.std.specs.Prelude.{ℕ, ◌<◌, [], slice_index_or}
 use Rattle.ac_expo.specs.Raw.{channels}
-use Rattle.ac_alloc.specs.Integration.{AreExponents}
 use Rattle.ac_cost.specs.Records.{Exponents, AtOffset}
-use Rattle.ac_cost.specs.Lists.{AreListed, not_listed}
+use Rattle.ac_cost.specs.Lists.{AreListed}
 use Rattle.ac_cost.specs.Prices.{ArePriced}
 use Rattle.ac_cost.specs.declared.lists.RunLists.TheInside as lists
 use Rattle.ac_cost.specs.declared.table.RunTable.TheInside as table

@@ -1,7 +1,5 @@
-use Rattle.std.proofs.Common.{◌≡◌, ◌≤◌, ℕ, ◌+◌, ◌*◌, true, false, sym, ap, ◌∙◌, arith}
-use Rattle.ac_base.proofs.ByRuns.{sum_none}
+use Rattle.std.proofs.Common.{◌≡◌, true, false, sym, ◌∙◌, arith}
 use Rattle.ac_cost.specs.Runs.{has}
-use Rattle.ac_cost.specs.Sixths.{in_blocks}
 use Rattle.ac_cost.proofs.Covering.{blocks-none, blocks-more}
 use Rattle.ac_cost.proofs.blocks.in_blocks.Goals as goal
 use Rattle.ac_cost.proofs.blocks.in_blocks.Goals.{then-has, else-has}

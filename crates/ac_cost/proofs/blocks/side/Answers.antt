@@ -1,4 +1,4 @@
-use Rattle.std.proofs.Common.{◌≡◌, ◌≤◌, ap, arith}
+use Rattle.std.proofs.Common.{ap, arith}
 use Rattle.ac_base.specs.declared.sizes.Parts.{Parts}
 use Rattle.ac_cost.proofs.Sides.{sides-small}
 use Rattle.ac_cost.proofs.blocks.side.Goals as goal

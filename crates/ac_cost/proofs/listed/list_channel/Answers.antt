@@ -1,14 +1,12 @@
-use Rattle.std.proofs.Common.{◌≡◌, ◌<◌, ◌≤◌, ℕ, ◌+◌, ◌*◌, length, slice_index, slice_index_or, subst, ap, sym, ◌∙◌, arith, length-set}
+use Rattle.std.proofs.Common.{◌≡◌, ◌<◌, ℕ, length, subst, ap, ◌∙◌, arith, length-set}
 use Rattle.ac_base.specs.Allocation.{bins}
 use Rattle.ac_base.specs.declared.spans.Span.{Span}
-use Rattle.ac_base.specs.declared.runs.Run.{Run}
 use Rattle.ac_expo.specs.Raw.{channel_span}
 use Rattle.ac_alloc.specs.Integration.{AreExponents}
 use Rattle.ac_cost.specs.declared.listed.Listed.{Listed}
-use Rattle.ac_cost.specs.Runs.{IsRunOf}
 use Rattle.ac_cost.specs.Rows.{run_of, rows_of}
 use Rattle.ac_cost.specs.Lists.{not_listed, IsListed}
-use Rattle.ac_cost.proofs.Listing.{set_each, set_more, listed_all, run_taken}
+use Rattle.ac_cost.proofs.Listing.{set_more, listed_all}
 use Rattle.ac_cost.proofs.listed.list_channel.Goals as goal
 
 pub loop-row-preserved : goal.loop-row-preserved

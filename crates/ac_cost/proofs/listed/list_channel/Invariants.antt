@@ -1,4 +1,4 @@
-use Rattle.std.proofs.Common.{◌≡◌, ◌<◌, ◌≤◌, ℕ, [], length, slice_index_or}
+use Rattle.std.proofs.Common.{◌≡◌, ◌<◌, ℕ, length, slice_index_or}
 use Rattle.ac_base.specs.Allocation.{bins}
 use Rattle.ac_alloc.specs.Integration.{AreExponents}
 use Rattle.ac_cost.specs.Rows.{run_of}

@@ -1,9 +1,7 @@
-use Rattle.std.proofs.Common.{◌≡◌, ◌<◌, ◌≤◌, ℕ, List, [], ◌+◌, length, slice_index, slice_index_or, subst, ap, sym, ◌∙◌, arith, length-set}
-use Rattle.ac_base.specs.Allocation.{bins}
-use Rattle.ac_alloc.specs.Integration.{AreExponents}
+use Rattle.std.proofs.Common.{◌<◌, ℕ, List, [], length, ◌∙◌, arith, length-set}
 use Rattle.ac_cost.specs.declared.listed.Listed.{Listed}
-use Rattle.ac_cost.specs.Lists.{not_listed, AreListed}
-use Rattle.ac_cost.proofs.Listing.{set_each, set_more}
+use Rattle.ac_cost.specs.Lists.{AreListed}
+use Rattle.ac_cost.proofs.Listing.{set_more}
 use Rattle.ac_cost.proofs.listed.list_channels.Goals as goal
 
 pub loop-c-preserved : goal.loop-c-preserved

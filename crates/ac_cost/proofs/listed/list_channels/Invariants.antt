@@ -1,7 +1,5 @@
-use Rattle.std.proofs.Common.{◌≡◌, ◌<◌, ◌≤◌, ℕ, [], length, slice_index_or}
-use Rattle.ac_base.specs.Allocation.{bins}
-use Rattle.ac_alloc.specs.Integration.{AreExponents}
-use Rattle.ac_cost.specs.Lists.{not_listed, AreListed}
+use Rattle.std.proofs.Common.{◌≡◌, ◌<◌, ℕ, [], length, slice_index_or}
+use Rattle.ac_cost.specs.Lists.{AreListed}
 use Rattle.ac_cost.proofs.listed.list_channels.Given as goal
 
 abbrev pub invariant-loop-c : goal.invariant-loop-c

@@ -1,4 +1,3 @@
-use Rattle.std.proofs.Common.{◌≡◌, ℕ, ◌≤◌, slice_index, subst}
 use Rattle.ac_cost.proofs.Listing.{listed_is, small_exps}
 use Rattle.ac_cost.proofs.listed.list_run.Goals as goal
 

@@ -1,4 +1,4 @@
-use Rattle.std.proofs.Common.{◌≡◌, ◌<◌, ◌≤◌, ℕ, length, sym, ◌∙◌, arith}
+use Rattle.std.proofs.Common.{sym, ◌∙◌, arith}
 use Rattle.ac_base.specs.declared.runs.Run.{Run}
 use Rattle.ac_cost.proofs.Covering.{first-has, none-has}
 use Rattle.ac_cost.proofs.parts.find.Goals as goal

@@ -1,4 +1,4 @@
-use Rattle.std.proofs.Common.{◌≡◌, ◌≤◌, ◌+◌, ◌*◌, suc, slice_index, sym, ap, ◌∙◌, arith}
+use Rattle.std.proofs.Common.{◌≡◌, ◌+◌, suc, slice_index, sym, ap, ◌∙◌, arith}
 use Rattle.ac_base.specs.Sigma.{sum_below}
 use Rattle.ac_base.proofs.ByRuns.{sum_none, sum_more}
 use Rattle.ac_cost.proofs.parts.first.Goals as goal

@@ -1,4 +1,4 @@
-use Rattle.std.proofs.Common.{◌≡◌, ◌<◌, ◌≤◌, ℕ, ◌-◌, slice_index, refl, arith}
+use Rattle.std.proofs.Common.{◌-◌, slice_index, refl, arith}
 use Rattle.ac_base.proofs.SpanBounds.{span_end}
 use Rattle.ac_mant.specs.Counts.{tally}
 use Rattle.ac_cost.proofs.Counting.{count-none, count-more, counts-small}

@@ -1,4 +1,4 @@
-use Rattle.std.proofs.Common.{◌≡◌, ℕ, ◌-◌, slice_index}
+use Rattle.std.proofs.Common.{◌≡◌, ◌-◌, slice_index}
 use Rattle.ac_base.specs.Fit.{tally_bins}
 use Rattle.ac_mant.specs.Counts.{tally}
 use Rattle.ac_cost.proofs.priced.count.Given as goal

@@ -1,6 +1,4 @@
-use Rattle.std.proofs.Common.{◌≡◌, ◌<◌, ◌≤◌, ℕ, List, slice_index, refl, sym, ap, subst, ◌∙◌, arith}
-use Rattle.ac_base.specs.declared.runs.Run.{Run}
-use Rattle.ac_cost.specs.Lists.{IsListed}
+use Rattle.std.proofs.Common.{◌∙◌, arith}
 use Rattle.ac_cost.proofs.Counting.{held-small, held-tally}
 use Rattle.ac_cost.proofs.priced.price.Goals as goal
 

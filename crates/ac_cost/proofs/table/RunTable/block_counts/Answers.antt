@@ -1,4 +1,4 @@
-use Rattle.std.proofs.Common.{◌≡◌, ◌≤◌, ◌<◌, ℕ, ◌+◌, ◌*◌, sym, ap, ◌∙◌, subst, arith}
+use Rattle.std.proofs.Common.{◌<◌, sym, ap, subst, arith}
 use Rattle.ac_base.specs.declared.runs.Run.{Run}
 use Rattle.ac_expo.specs.Raw.{channels, channel_span}
 use Rattle.ac_cost.specs.Pointers.{pointers}

@@ -1,4 +1,4 @@
-use Rattle.std.proofs.Common.{◌≡◌, ◌≤◌, ℕ, ◌+◌, ◌*◌, slice_index, sym, ap, ◌∙◌, arith}
+use Rattle.std.proofs.Common.{slice_index, ap, ◌∙◌, arith}
 use Rattle.ac_base.specs.Fit.{exponent_bits}
 use Rattle.ac_base.specs.Words.{word_of}
 use Rattle.ac_expo.specs.Raw.{channel_span}

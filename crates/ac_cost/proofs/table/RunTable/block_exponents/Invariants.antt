@@ -1,4 +1,4 @@
-use Rattle.std.proofs.Common.{◌≡◌, ◌≤◌, ◌*◌, ◌^◌, slice_index}
+use Rattle.std.proofs.Common.{◌≡◌, ◌≤◌, ◌*◌}
 use Rattle.ac_base.specs.Fit.{exponents_in}
 use Rattle.ac_expo.specs.Raw.{channel_span}
 use Rattle.ac_cost.proofs.table.RunTable.block_exponents.Given as goal

@@ -1,4 +1,4 @@
-use Rattle.std.proofs.Common.{◌≡◌, ◌≤◌, ◌<◌, ℕ, ◌+◌, ◌*◌, ◌^◌, length, length-set, slice_index, sym, ap, ◌∙◌, subst, arith}
+use Rattle.std.proofs.Common.{◌≡◌, ◌≤◌, ◌<◌, ℕ, ◌^◌, length, length-set, ◌∙◌, arith}
 use Rattle.ac_cost.specs.Blocks.{exponents_at}
 use Rattle.ac_cost.proofs.Listing.{set_each, set_more}
 use Rattle.ac_cost.proofs.table.RunTable.exponents.Goals as goal

@@ -1,5 +1,5 @@
-use Rattle.std.proofs.Common.{◌≡◌, ◌≤◌, ◌<◌, ℕ, ◌+◌, ◌*◌, ◌/◌, ◌^◌, length, length-set, slice_index, sym, ap, ◌∙◌, subst, arith}
-use Rattle.ac_base.specs.Counts.{Tally, exact_of}
+use Rattle.std.proofs.Common.{◌≡◌, ◌≤◌, ◌<◌, ℕ, ◌^◌, length, length-set, ap, ◌∙◌, arith}
+use Rattle.ac_base.specs.Counts.{exact_of}
 use Rattle.ac_cost.specs.Blocks.{mantissas_at}
 use Rattle.ac_cost.proofs.Listing.{set_each, set_more}
 use Rattle.ac_cost.proofs.table.RunTable.mantissas.Goals as goal

@@ -1,10 +1,7 @@
-use Rattle.std.proofs.Common.{◌≡◌, ◌≤◌, ◌<◌, ℕ, List, [], ◌+◌, ◌*◌, ◌^◌, slice_index, slice_index_or, sym, ap, ◌∙◌, subst, Fits, w32, arith}
-use Rattle.ac_base.specs.declared.sizes.Parts.{Parts}
+use Rattle.std.proofs.Common.{◌≡◌, ◌<◌, ℕ, slice_index, ap, ◌∙◌, arith}
 use Rattle.ac_base.specs.Fit.{side_of}
-use Rattle.ac_expo.specs.Raw.{channels}
 use Rattle.ac_cost.specs.Blocks.{exponents_at}
 use Rattle.ac_cost.specs.Records.{AtOffset}
-use Rattle.ac_cost.specs.Runs.{IsAssignmentOf}
 use Rattle.ac_cost.proofs.Assigning.{assign-is, assign-same, coded-few}
 use Rattle.ac_cost.proofs.Summing.{blocks-are, exponents-same, parts-are}
 use Rattle.ac_cost.proofs.table.RunTable.parts.Goals as goal

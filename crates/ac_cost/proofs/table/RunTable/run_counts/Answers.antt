@@ -1,4 +1,4 @@
-use Rattle.std.proofs.Common.{◌≡◌, ℕ, [], slice_index_or, subst, sym, ap, ◌∙◌}
+use Rattle.std.proofs.Common.{ℕ, [], slice_index_or, subst, sym, ap, ◌∙◌}
 use Rattle.ac_mant.specs.declared.counts.Counts.{Counts}
 use Rattle.ac_mant.specs.Counts.{tally}
 use Rattle.ac_cost.specs.Prices.{no_counts}
