@@ -1,6 +1,6 @@
 //! The bits of a frame's parts by an assignment.
 ghost use Rattle.std.specs.Prelude.{◌≡◌, ◌<◌, ◌≤◌, ◌+◌, ◌*◌, ◌^◌, ◌↔◌, IsTrue, ℕ, List, [], slice_index, slice_index_or};
-ghost use Rattle.ac_base.specs.Counts.{joined};
+ghost use Rattle.ac_base.specs.Counts.{joined, exact_of};
 ghost use Rattle.ac_base.specs.Fit.{tally_channels, exponents_in};
 ghost use Rattle.ac_base.specs.Sigma.{sum_below};
 ghost use Rattle.ac_base.specs.Words.{IsWord, runs_of, word_of};
@@ -69,6 +69,15 @@ fn join(few: &Counts, more: &Counts) -> Counts
     }
 }
 
+/// What the mantissas of a block cost.
+fn mantissa_bits(counts: &Counts) -> u32
+    requires { AreFew 7 counts.now }
+    ensures value { result ≡ exact_of (tally counts.now) }
+    ensures bound { result ≤ 2 ^ 16 }
+{
+    exact(counts)
+}
+
 /// The sum of the bits of the first blocks.
 fn first(blocks: usize, bits: &[u32; 6]) -> u32
     requires few { blocks ≤ 6 }
@@ -121,7 +130,7 @@ impl RunTable {
     {
         let mut bits = [0; 6];
         for block in 0..6u8 {
-            bits[block as usize] = exact(&self.block_counts(a, block));
+            bits[block as usize] = mantissa_bits(&self.block_counts(a, block));
         }
         bits
     }
