@@ -14,7 +14,8 @@ no_counts = record { linear = 0; n1 = 0; n2 = 0; n4 = 0 }
 
 -- the counts of all runs of a channel by row
 abbrev pub ArePriced : Shape → List (List (List ℕ)) → ℕ → ℕ → List Counts → Type 0
-ArePriced shape raw t c rows = (run : Run) → IsRunOf shape c run → tally (slice_index_or rows (row_of run) no_counts) ≡ run_tally shape raw t c run
+ArePriced shape raw t c rows =
+    (run : Run) → IsRunOf shape c run → tally (slice_index_or rows (row_of run) no_counts) ≡ run_tally shape raw t c run
 
 -- as many as the bins of n channels can have
 abbrev pub AreFew : ℕ → Counts → Type 0

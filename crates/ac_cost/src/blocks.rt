@@ -46,9 +46,9 @@ pub fn has(run: &Run, block: u8) -> bool
 /// A cost for each of the first blocks that a run has.
 pub fn in_blocks(blocks: u8, run: &Run, cost: u32) -> u32
     requires few { blocks ≤ 6 }
-    requires cost { cost ≤ 2 ^ 20 }
+    requires cost { cost ≤ 2 ^ 16 }
     ensures value { result ≡ in_blocks blocks run.now cost }
-    ensures bound { result ≤ 2 ^ 20 * blocks }
+    ensures bound { result ≤ 2 ^ 16 * blocks }
 {
     let mut sum = 0;
     for b in 0..blocks {

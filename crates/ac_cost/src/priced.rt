@@ -45,7 +45,8 @@ fn price(shape: &Shape, c: u8, t: u16, listed: &Listed) -> Counts
     requires channel { c < channels shape.now }
     requires small { AreExponents 0 bins listed.now.exps }
     requires t { t ≤ 1023 }
-    ensures { (raw : List (List (List ℕ))) (run : Run) → IsListed shape.now raw c run listed.now → tally result ≡ run_tally shape.now raw t c run }
+    ensures { (raw : List (List (List ℕ))) (run : Run) → IsListed shape.now raw c run listed.now
+        → tally result ≡ run_tally shape.now raw t c run }
 {
     let span = shape.span(c);
     let mut pointers = [0; 256];
@@ -56,7 +57,8 @@ fn price(shape: &Shape, c: u8, t: u16, listed: &Listed) -> Counts
 /// Those of all runs of coded channel c, by row.
 fn price_channel(shape: &Shape, c: u8, t: u16, lists: &[Listed; 63], out: &mut [Counts; 63])
     requires channel { c < channels shape.now }
-    requires small { (row : ℕ) → row < rows_of (channel_span shape.now c).lead → AreExponents 0 bins (slice_index_or lists.now row not_listed).exps }
+    requires small { (row : ℕ) → row < rows_of (channel_span shape.now c).lead
+        → AreExponents 0 bins (slice_index_or lists.now row not_listed).exps }
     requires t { t ≤ 1023 }
     ensures { (raw : List (List (List ℕ))) → AreListed shape.now raw c lists.now → ArePriced shape.now raw t c out.new }
 {

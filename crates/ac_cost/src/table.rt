@@ -1,6 +1,5 @@
 //! What the runs of a frame cost at an offset.
-ghost use Rattle.std.specs.Prelude.{◌≡◌, ◌<◌, ◌≤◌, ◌+◌, ◌*◌, ◌↔◌, IsTrue, ℕ, List};
-ghost use Rattle.ac_base.specs.Fit.{block_cost};
+ghost use Rattle.std.specs.Prelude.{◌≡◌, ◌<◌, ◌≤◌, ◌+◌, ◌*◌, ◌^◌, ℕ, slice_index};
 ghost use Rattle.ac_mant.specs.Counts.{tally};
 ghost use Rattle.ac_cost.specs.Records.{at_offset};
 ghost use Rattle.ac_cost.specs.Runs.{IsRunOf};
@@ -69,6 +68,7 @@ impl RunTable {
     pub fn run_sixths(&self, channel: u8, run: &Run) -> [u32; 3]
         requires { IsRunOf self.now.shape channel run.now }
         ensures value { result ≡ sixths_by_part self.now.shape self.now.raw self.now.t channel run.now }
+        ensures bound { (part : ℕ) → slice_index result part ≤ 2 ^ 19 }
     {
         let mantissas = sixths(&self.run_counts(channel, run));
         let exponents = 6 * self.run_exponents(channel, run);
