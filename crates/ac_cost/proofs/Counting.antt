@@ -44,7 +44,7 @@ pub held-is : (shape : Shape) (raw : List (List (List ℕ))) (t c : ℕ) (run : 
 unfolding run_bap
 held-is shape raw t c run listed is k inside =
     let span = channel_span shape c in
-    let p = encoder_params shape.fscod in
+    let p = encoder_params shape.fscod shape.sampling in
     let end = span_end span (span_of_shape shape c) in
     let some = span_some span (span_of_shape shape c) in
     let b = slice_index masktab_list k in

@@ -24,7 +24,7 @@ use Rattle.ac_cost.specs.Lists.{IsListed, AreListed, not_listed}
 use Rattle.ac_cost.specs.declared.listed.Listed.{Listed}
 use Rattle.ac_cost.proofs.Exponents.{run_exps_are}
 
-pub listed_is : (shape : Shape) (raw : List (List (List ℕ))) (c : ℕ) (run : Run) (span : Span) (p : Params) (exps : List ℕ) (m : Mask) → span ≡ channel_span shape c → p ≡ encoder_params shape.fscod → IsByFormula run.kind span (slice_index_or raw c []) run.from run.to exps → ((b : ℕ) → first_band span ≤ b → b ≤ last_band span → slice_index_or m.m b (pos 0) ≡ mask p span exps b) → m.floor ≡ floor_of p → IsListed shape raw c run (record { exps = exps; mask = m })
+pub listed_is : (shape : Shape) (raw : List (List (List ℕ))) (c : ℕ) (run : Run) (span : Span) (p : Params) (exps : List ℕ) (m : Mask) → span ≡ channel_span shape c → p ≡ encoder_params shape.fscod shape.sampling → IsByFormula run.kind span (slice_index_or raw c []) run.from run.to exps → ((b : ℕ) → first_band span ≤ b → b ≤ last_band span → slice_index_or m.m b (pos 0) ≡ mask p span exps b) → m.floor ≡ floor_of p → IsListed shape raw c run (record { exps = exps; mask = m })
 listed_is shape raw c run span p exps m es ep formula masks floor =
     let F : Span → Type 0 = λ s. IsByFormula run.kind s (slice_index_or raw c []) run.from run.to exps in
     let M : Span → Params → Type 0 = λ s q. (b : ℕ) → first_band s ≤ b → b ≤ last_band s → slice_index_or m.m b (pos 0) ≡ mask q s exps b in

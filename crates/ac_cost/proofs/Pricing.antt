@@ -12,7 +12,7 @@ use Rattle.ac_base.proofs.AllocationTables.{baps_small}
 use Rattle.ac_base.proofs.ByRuns.{sum_more, sum_none}
 use Rattle.ac_base.proofs.SpanBounds.{span_some}
 use Rattle.ac_expo.specs.Raw.{channel_span}
-use Rattle.ac_alloc.specs.Codes.{encoder_params, IsParams, floor_of}
+use Rattle.ac_alloc.specs.Codes.{encoder_params, floor_of}
 use Rattle.ac_alloc.specs.Integration.{psd}
 use Rattle.ac_alloc.specs.Masking.{mask}
 use Rattle.ac_alloc.specs.Pointers.{address, level, bap_at}
@@ -37,28 +37,25 @@ pub run_bap-silent : (shape : Shape) (raw : List (List (List ℕ))) (c : ℕ) (r
 unfolding run_bap
 run_bap-silent shape raw c run k = refl
 
-pub run_bap-heard : (shape : Shape) (raw : List (List (List ℕ))) (t c : ℕ) (run : Run) (k : ℕ) → 0 < t → run_bap shape raw t c run k ≡ bap_at (encoder_params shape.fscod) (channel_span shape c) (run_exps shape raw c run) k t
+pub run_bap-heard : (shape : Shape) (raw : List (List (List ℕ))) (t c : ℕ) (run : Run) (k : ℕ) → 0 < t → run_bap shape raw t c run k ≡ bap_at (encoder_params shape.fscod shape.sampling) (channel_span shape c) (run_exps shape raw c run) k t
 unfolding run_bap
 run_bap-heard shape raw t c run k l = let e : (t == 0) ≡ false = ne_eqb t 0 (omega arith) in rw e refl
 
 pub run_bap-small : (shape : Shape) (raw : List (List (List ℕ))) (t c : ℕ) (run : Run) (k : ℕ) → run_bap shape raw t c run k ≤ 15
 unfolding run_bap
 run_bap-small shape raw t c run k =
-    bounded (t == 0) 0 (bap_at (encoder_params shape.fscod) (channel_span shape c) (run_exps shape raw c run) k t) 15 (omega arith)
-    (let p = encoder_params shape.fscod in
+    bounded (t == 0) 0 (bap_at (encoder_params shape.fscod shape.sampling) (channel_span shape c) (run_exps shape raw c run) k t) 15 (omega arith)
+    (let p = encoder_params shape.fscod shape.sampling in
     let exps = run_exps shape raw c run in
     let m = mask p (channel_span shape c) exps (slice_index masktab_list k) in
     baps_small (address (level m (floor_of p) t) (psd exps k)) (omega arith))
-
-params_are : (shape : Shape) → IsParams (encoder_params shape.fscod)
-params_are shape = (shape.sampling, omega arith, omega arith, omega arith, omega arith, omega arith, omega arith, omega arith, omega arith)
 
 run_bap-rises : (shape : Shape) (raw : List (List (List ℕ))) (c : ℕ) (run : Run) (k t u : ℕ) → IsIn (channel_span shape c) k → t ≤ u → run_bap shape raw t c run k ≤ run_bap shape raw u c run k
 run_bap-rises shape raw c run k zero u is l = omega (arith, run_bap-silent shape raw c run k)
 run_bap-rises shape raw c run k (suc t) u is l =
     let x = run_bap-heard shape raw (suc t) c run k (omega arith) in
     let y = run_bap-heard shape raw u c run k (omega arith) in
-    let r = bap_rises (encoder_params shape.fscod) (channel_span shape c) (run_exps shape raw c run) k (suc t) u (params_are shape) (span_of_shape shape c) is.0 is.1 l in
+    let r = bap_rises (encoder_params shape.fscod shape.sampling) (channel_span shape c) (run_exps shape raw c run) k (suc t) u (span_of_shape shape c) is.0 is.1 l in
     omega (arith, x, y, r)
 
 tally-rises : (shape : Shape) (raw : List (List (List ℕ))) (c : ℕ) (run : Run) (t u : ℕ) → t ≤ u → sixths_of (run_tally shape raw t c run) ≤ sixths_of (run_tally shape raw u c run)

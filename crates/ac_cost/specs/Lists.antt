@@ -17,8 +17,8 @@ use Rattle.ac_cost.specs.Rows.{row_of, rows_of}
 pub record IsListed (shape : Shape) (raw : List (List (List ℕ))) (c : ℕ) (run : Run) (listed : Listed) : Type 0 where
   pub exps : (k : ℕ) → IsIn (channel_span shape c) k → slice_index listed.exps k ≡ slice_index (run_exps shape raw c run) k
   pub masks : (b : ℕ) → first_band (channel_span shape c) ≤ b → b ≤ last_band (channel_span shape c)
-      → slice_index_or listed.mask.m b (pos 0) ≡ mask (encoder_params shape.fscod) (channel_span shape c) listed.exps b
-  pub floor : listed.mask.floor ≡ floor_of (encoder_params shape.fscod)
+      → slice_index_or listed.mask.m b (pos 0) ≡ mask (encoder_params shape.fscod shape.sampling) (channel_span shape c) listed.exps b
+  pub floor : listed.mask.floor ≡ floor_of (encoder_params shape.fscod shape.sampling)
 
 -- nothing is held
 abbrev pub not_listed : Listed

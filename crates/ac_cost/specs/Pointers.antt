@@ -22,7 +22,7 @@ run_exps shape raw c run =
 -- the pointer of a bin in each block of a run; offset 0 has all SNR offset codes 0, for which all pointers are 0 (A/52 7.2.2.7)
 unfoldable pub run_bap : Shape → List (List (List ℕ)) → ℕ → ℕ → Run → ℕ → ℕ
 run_bap shape raw t c run bin =
-    if t == 0 then 0 else bap_at (encoder_params shape.fscod) (channel_span shape c) (run_exps shape raw c run) bin t
+    if t == 0 then 0 else bap_at (encoder_params shape.fscod shape.sampling) (channel_span shape c) (run_exps shape raw c run) bin t
 
 -- the mantissas of a run in one of its blocks
 abbrev pub run_tally : Shape → List (List (List ℕ)) → ℕ → ℕ → Run → Tally
