@@ -1,0 +1,12 @@
+pub mod Assigning
+pub mod Bounding
+pub mod Fewest
+pub mod Counting
+pub mod Covering
+pub mod Listing
+pub mod Exponents
+pub mod Pricing
+pub mod Reading
+pub mod Sides
+pub mod Summing
+pub mod Tallying

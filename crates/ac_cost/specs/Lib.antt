@@ -1,0 +1,11 @@
+pub mod Blocks
+pub mod Laws
+pub mod Lists
+pub mod Parts
+pub mod Pointers
+pub mod Prices
+pub mod Records
+pub mod Rows
+pub mod Runs
+pub mod Seen
+pub mod Sixths
