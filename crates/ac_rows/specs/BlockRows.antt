@@ -303,7 +303,7 @@ allocation_from x = (parameters_of x, (offsets_of x, leaks_of x))
 unfoldable pub allocation : ℕ → Bool → Known → Coupling → Codec Allocation
 allocation full low known c = shaped allocation_to allocation_from (pair (parameters known.begun) (λ _. pair (offsets full low known c) (λ _. leaks known c)))
 
--- ---- the rest (A/52 5.4.3.47, 5.4.3.56, 5.4.3.57)
+-- ---- the rest (A/52 5.4.3.47, 5.4.3.58, 5.4.3.59)
 
 abbrev pub rest_to : Bool × (Bool × Option ℕ) → Rest
 rest_to (a, (b, c)) = record { deltbaie = a; skiple = b; skipl = c }
@@ -351,7 +351,7 @@ abbrev pub bits_skipped : Option ℕ → ℕ
 bits_skipped None = 0
 bits_skipped (Some n) = 8 * n
 
--- the skip bytes (A/52 5.4.3.58)
+-- the skip bytes (A/52 5.4.3.60)
 abbrev pub skip_bits : Block → ℕ
 skip_bits b = bits_skipped b.skipl
 

@@ -97,9 +97,9 @@ pub struct Block<C: Copy = Option<u8>> {
     pub cplsleak: Option<u8>,
     /// Whether there is delta bit allocation, which this profile refuses (A/52 5.4.3.47).
     pub deltbaie: bool,
-    /// Whether there are skip bytes (A/52 5.4.3.56).
+    /// Whether there are skip bytes (A/52 5.4.3.58).
     pub skiple: bool,
-    /// The number of skip bytes, 9 bits (A/52 5.4.3.57).
+    /// The number of skip bytes, 9 bits (A/52 5.4.3.59).
     pub skipl: Option<u16>,
 }
 

@@ -96,7 +96,7 @@ pub struct Allocation {
     pub cplsleak: Option<u8>,
 }
 
-/// The last fields before the mantissas (A/52 5.4.3.47, 5.4.3.56 to 5.4.3.58).
+/// The last fields before the mantissas (A/52 5.4.3.47, 5.4.3.58 to 5.4.3.60).
 #[derive(Clone, Copy)]
 pub struct Rest {
     pub deltbaie: bool,
