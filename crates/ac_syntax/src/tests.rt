@@ -6,9 +6,11 @@ use super::*;
 use ac_bits::{BitSink, BitSource};
 use ac_expo::Spelled;
 
-mod vectors;
+mod frames;
+mod refusals;
 
-use vectors::*;
+use frames::*;
+use refusals::*;
 
 // Digests are FNV-1a of 64 bits over the fields as numbers of eight bytes, least significant byte first; 9999 stands for a
 // field that isn't there.
@@ -284,270 +286,34 @@ fn first(bytes: &[u8]) -> Option<Refused> {
 
 #[test]
 fn fields_of_frames(rt: HostRuntime) {
-    assert_eq!(rt;
-        digests(&FRAME_01, &[90, 90, 90, 95, 95, 95]),
-        Ok((
-            6172942142076809570,
-            [
-                1830216919193347418,
-                2927178014096583039,
-                2927178014096583039,
-                242693724641246677,
-                154419451212229772,
-                2927178014096583039
-            ]
-        ))
-    );
-    assert_eq!(rt;
-        digests(&FRAME_03, &[0, 0, 0, 0, 0, 0]),
-        Ok((
-            15965402862681524001,
-            [
-                3604645822894034458,
-                7745277708811280267,
-                7755327691676800105,
-                7755327691676800105,
-                7755327691676800105,
-                13863129701726281198
-            ]
-        ))
-    );
-    assert_eq!(rt;
-        digests(&FRAME_13, &[145, 145, 145, 150, 145, 145]),
-        Ok((
-            14392174853647310751,
-            [
-                18160383383155542111,
-                17201279374988184375,
-                17201279374988184375,
-                16222209089106593945,
-                7128315411301588000,
-                17201279374988184375
-            ]
-        ))
-    );
-    assert_eq!(rt;
-        digests(&FRAME_14, &[125, 125, 130, 75, 75, 75]),
-        Ok((
-            8909267408467166866,
-            [
-                12346243542095951366,
-                15700394731125985837,
-                14537345546458765552,
-                2452508964828243215,
-                9200954166602888065,
-                7817273145963483657
-            ]
-        ))
-    );
-    assert_eq!(rt;
-        digests(&FRAME_16, &[250, 250, 250, 250, 250, 250]),
-        Ok((
-            14226997100474923289,
-            [
-                6362309790576476000,
-                15700394731125985837,
-                15700394731125985837,
-                15700394731125985837,
-                15700394731125985837,
-                15700394731125985837
-            ]
-        ))
-    );
-    assert_eq!(rt;
-        digests(&FRAME_18, &[72, 35, 35, 0, 0, 0]),
-        Ok((
-            12267914383210505815,
-            [
-                15717132097763792125,
-                15390775440811675365,
-                15700394731125985837,
-                11068767578537473874,
-                15700394731125985837,
-                9931464959905238549
-            ]
-        ))
-    );
-    assert_eq!(rt;
-        digests(&FRAME_19, &[0, 0, 0, 0, 0, 0]),
-        Ok((
-            6153149677917444265,
-            [
-                1940775160535275985,
-                4467005200349761001,
-                4467005200349761001,
-                4467005200349761001,
-                4467005200349761001,
-                8930712621400489029
-            ]
-        ))
-    );
-    assert_eq!(rt;
-        digests(&FRAME_31, &[15, 20, 20, 0, 0, 0]),
-        Ok((
-            332724040836364062,
-            [
-                7655730319963410866,
-                9350876557222313208,
-                15700394731125985837,
-                1207213904626726578,
-                17539684430142150177,
-                15700394731125985837
-            ]
-        ))
-    );
-    assert_eq!(rt;
-        digests(&FRAME_33, &[15, 25, 25, 10, 5, 0]),
-        Ok((
-            6518312713612106339,
-            [
-                4405291155465691955,
-                14198731560616822232,
-                14618789165489658309,
-                17198917987932047117,
-                3338688225599580979,
-                8323111597864440562
-            ]
-        ))
-    );
-    assert_eq!(rt;
-        digests(&FRAME_36, &[15, 15, 15, 15, 15, 15]),
-        Ok((
-            1760001079578532205,
-            [
-                15305755702348142214,
-                6382525853036488472,
-                10997228338321948891,
-                4100382146650466347,
-                12953887968560032585,
-                10270330552009873105
-            ]
-        ))
-    );
-    assert_eq!(rt;
-        digests(&FRAME_43, &[0, 0, 0, 0, 0, 0]),
-        Ok((
-            964921096767051801,
-            [
-                8967165054229579550,
-                14617312572228681055,
-                15700394731125985837,
-                5640079745311727512,
-                4528955937024573860,
-                14102087627311072306
-            ]
-        ))
-    );
-    assert_eq!(rt;
-        digests(&FRAME_45, &[15, 0, 0, 20, 20, 20]),
-        Ok((
-            8268012659360917065,
-            [
-                7347464879302146430,
-                13072420548492032147,
-                11172597858553326189,
-                4670933169118211437,
-                13204446808955539008,
-                14406878911089483939
-            ]
-        ))
-    );
-    assert_eq!(rt;
-        digests(&FRAME_53, &[15, 38, 10, 10, 10, 10]),
-        Ok((
-            18337868196560309041,
-            [
-                563417088393339004,
-                337072376900685547,
-                10966323506279862554,
-                17530395236135467952,
-                13782563939764661991,
-                7755327691676800105
-            ]
-        ))
-    );
-    assert_eq!(rt;
-        digests(&FRAME_58, &[0, 5, 5, 15, 15, 46]),
-        Ok((
-            10910465401727060551,
-            [
-                11765977552242321494,
-                2831254677718622444,
-                16142432334640010486,
-                17191823203391224905,
-                15974049176999857028,
-                903848990878802213
-            ]
-        ))
-    );
+    for i in 0..60usize {
+        let from = ENDS[i];
+        let to = ENDS[i + 1];
+        assert!(rt; from <= to && to <= FRAMES.len());
+        let found = &FOUND[i];
+        assert_eq!(rt;
+            digests(&FRAMES[from..to], &found.mantissas),
+            Ok((found.head, found.blocks)),
+            "frame {i}"
+        );
+    }
 }
 
 #[test]
 fn first_refused_fields(rt: HostRuntime) {
-    assert_eq!(rt; first(&BADSYNC_SIX_BYTES), Some(Refused::BadSync));
-    assert_eq!(rt; first(&BADBSID_SIX_BYTES), Some(Refused::BadBsid(10)));
-    assert_eq!(rt;
-        first(&RESERVED_SIX_BYTES),
-        Some(Refused::Reserved(Row::Frmsizecod))
-    );
-    assert_eq!(rt; first(&NOREUSE_BAIE_1), Some(Refused::NoReuse(Row::Baie)));
-    assert_eq!(rt;
-        first(&BADEXPONENT_BELOW_1),
-        Some(Refused::BadExponent {
-            channel: 0,
-            place: 0
-        })
-    );
-    assert_eq!(rt; first(&DITHER_3), Some(Refused::Dither));
-    assert_eq!(rt;
-        first(&NOREUSE_REMATSTR_1),
-        Some(Refused::NoReuse(Row::Rematstr))
-    );
-    assert_eq!(rt;
-        first(&NOREUSE_CPLLEAKE_2),
-        Some(Refused::NoReuse(Row::Cplleake))
-    );
-    assert_eq!(rt;
-        first(&NOREUSE_CHEXPSTR_LAST_CHANNEL_1),
-        Some(Refused::NoReuse(Row::Chexpstr))
-    );
-    assert_eq!(rt;
-        first(&NOREUSE_SNROFFSTE_2),
-        Some(Refused::NoReuse(Row::Snroffste))
-    );
-    assert_eq!(rt;
-        first(&NOREUSE_CPLCOE_1),
-        Some(Refused::NoReuse(Row::Cplcoe))
-    );
-    assert_eq!(rt;
-        first(&RESERVED_FSCOD_2),
-        Some(Refused::Reserved(Row::Fscod))
-    );
-    assert_eq!(rt;
-        first(&RESERVED_CPLENDF_3),
-        Some(Refused::Reserved(Row::Cplendf))
-    );
-    assert_eq!(rt;
-        first(&NOREUSE_CPLSTRE_2),
-        Some(Refused::NoReuse(Row::Cplstre))
-    );
-    assert_eq!(rt;
-        first(&NOREUSE_CPLEXPSTR_1),
-        Some(Refused::NoReuse(Row::Cplexpstr))
-    );
-    assert_eq!(rt;
-        first(&NOREUSE_LFEEXPSTR_1),
-        Some(Refused::NoReuse(Row::Lfeexpstr))
-    );
-    assert_eq!(rt; first(&TWO_DELTA_BEFORE_CHANGE), Some(Refused::Delta));
-    assert_eq!(rt; first(&SHORTBLOCK_ONE_CHANNEL_1), Some(Refused::ShortBlock));
-    assert_eq!(rt; first(&DUALMONO_3), Some(Refused::DualMono));
+    for i in 0..60usize {
+        let from = STREAM_ENDS[i];
+        let to = STREAM_ENDS[i + 1];
+        assert!(rt; from <= to && to <= STREAMS.len());
+        assert_eq!(rt; first(&STREAMS[from..to]), Some(REFUSALS[i]), "stream {i}");
+    }
 }
 
 /// Head and block 0 of a frame have 264 bits, of which none are free.
 #[test]
 fn fields_written_back(rt: HostRuntime) {
-    let mut source = source_of(&FRAME_01);
+    let frame = &FRAMES[..140];
+    let mut source = source_of(frame);
     if let Ok(head) = heads(&mut source)
         && let Ok(block) = next(&head, &[], &mut source, 0)
     {
@@ -557,7 +323,7 @@ fn fields_written_back(rt: HostRuntime) {
         assert_eq!(rt; sink.len(), 264);
         let mut out = [0; 3840];
         let count = sink.bytes(&mut out);
-        assert_eq!(rt; &out[..count], &FRAME_01[..33]);
+        assert_eq!(rt; &out[..count], &frame[..33]);
     } else {
         assert!(rt; false);
     }
