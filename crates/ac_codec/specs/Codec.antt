@@ -47,7 +47,8 @@ unfoldable pub field : ℕ → (ℕ → Option Refused) → Codec ℕ
 field w refuse = record {
   spell = λ v. bits v w;
   Lawful = λ v. (v < 2 ^ w) × (refuse v ≡ None);
-  Refuses = λ l e at. (at ≡ l) × (((length l < w) × (e ≡ OutOfBits)) ⊎ ((v : ℕ) × (rest : List Bool) × (v < 2 ^ w) × (l ≡ bits v w ++ rest) × (refuse v ≡ Some e)));
+  Refuses = λ l e at. (at ≡ l) × (((length l < w) × (e ≡ OutOfBits))
+      ⊎ ((v : ℕ) × (rest : List Bool) × (v < 2 ^ w) × (l ≡ bits v w ++ rest) × (refuse v ≡ Some e)));
   read = field_read w refuse;
 }
 
@@ -219,7 +220,8 @@ unfoldable pub single : {A : Type 0} → ℕ → (A → Option Refused) → Code
 single {A} w refuse c = record {
   spell = c.spell;
   Lawful = λ a. c.Lawful a × (refuse a ≡ None);
-  Refuses = λ l e at. (at ≡ l) × (((length l < w) × (e ≡ OutOfBits)) ⊎ ((a : A) × (rest : List Bool) × c.Lawful a × (l ≡ c.spell a ++ rest) × (refuse a ≡ Some e)));
+  Refuses = λ l e at. (at ≡ l) × (((length l < w) × (e ≡ OutOfBits))
+      ⊎ ((a : A) × (rest : List Bool) × c.Lawful a × (l ≡ c.spell a ++ rest) × (refuse a ≡ Some e)));
   read = single_read w refuse c.read;
 }
 

@@ -15,7 +15,8 @@ ReadsBack {A} c = (a : A) (rest : List Bool) → c.Lawful a → c.read (c.spell 
 -- each list begins with a lawful value, or is refused
 abbrev pub IsDecided : {A : Type 0} → Codec A → Type 0
 IsDecided {A} c =
-    (l : List Bool) → ((a : A) × (rest : List Bool) × (c.Lawful a × (l ≡ c.spell a ++ rest))) ⊎ ((e : Refused) × (at : List Bool) × c.Refuses l e at)
+    (l : List Bool) → ((a : A) × (rest : List Bool) × (c.Lawful a × (l ≡ c.spell a ++ rest)))
+    ⊎ ((e : Refused) × (at : List Bool) × c.Refuses l e at)
 
 -- and not both
 abbrev pub IsNeverBoth : {A : Type 0} → Codec A → Type 0

@@ -68,7 +68,8 @@ abbrev pub exponent_bits : Option Spelling × Option ℕ → List Bool
 exponent_bits p = some_spell spelling_bits p.0 ++ some_spell (λ v. bits v 2) p.1
 
 abbrev pub exponents_bits : Exponents → List Bool
-exponents_bits x = some_spell spelling_bits x.cplabsexp ++ (spelled_each exponent_bits (zipped x.exps x.gainrng) ++ some_spell spelling_bits x.lfeexps)
+exponents_bits x = some_spell spelling_bits x.cplabsexp ++ (spelled_each exponent_bits (zipped x.exps x.gainrng)
+    ++ some_spell spelling_bits x.lfeexps)
 
 pub record ExponentsFit (x : Exponents) : Type 0 where
   pub shared : ForSome x.cplabsexp SpellingFits

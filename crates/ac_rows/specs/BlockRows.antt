@@ -53,7 +53,8 @@ start full = shaped start_to start_from (
 unfoldable pub coupled_each : ℕ → ℕ → Bool → ℕ → Bool → Codec (List (Option Bool))
 coupled_each zero i sent full seen = absent []
 coupled_each (suc n) i sent full seen =
-    cons_then (given (sent && nat_lt i full) (test (zero_where (nat_lt (suc i) full || seen) (Reserved Chincpl)))) (λ coupled. coupled_each n (suc i) sent full (seen || holds coupled))
+    cons_then (given (sent && nat_lt i full) (test (zero_where (nat_lt (suc i) full || seen) (Reserved Chincpl))))
+    (λ coupled. coupled_each n (suc i) sent full (seen || holds coupled))
 
 -- there is a subband: cplbegf is at most cplendf + 2
 abbrev pub no_less : ℕ → ℕ → Option Refused
@@ -67,10 +68,20 @@ sent_subbands sent cplbegf cplendf = subbands (if sent then Some (number cplbegf
 unfoldable pub joined_each : ℕ → Codec (List (Option Bool))
 joined_each subbands = each 18 0 (λ k. given (nat_le 1 k && nat_lt k subbands) flag)
 
-abbrev pub strategy_to : Bool × (Option Bool × (List (Option Bool) × (Option Bool × (Option ℕ × (Option ℕ × List (Option Bool)))))) → Strategy
-strategy_to (a, (b, (c, (d, (e, (f, g)))))) = record { cplstre = a; cplinu = b; chincpl = c; phsflginu = d; cplbegf = e; cplendf = f; cplbndstrc = g }
+abbrev pub strategy_to : Bool × (Option Bool × (List (Option Bool) × (Option Bool × (Option ℕ × (Option ℕ
+    × List (Option Bool)))))) → Strategy
+strategy_to (a, (b, (c, (d, (e, (f, g)))))) = record {
+  cplstre = a;
+  cplinu = b;
+  chincpl = c;
+  phsflginu = d;
+  cplbegf = e;
+  cplendf = f;
+  cplbndstrc = g;
+}
 
-abbrev pub strategy_from : Strategy → Bool × (Option Bool × (List (Option Bool) × (Option Bool × (Option ℕ × (Option ℕ × List (Option Bool))))))
+abbrev pub strategy_from : Strategy → Bool × (Option Bool × (List (Option Bool) × (Option Bool × (Option ℕ × (Option ℕ
+    × List (Option Bool))))))
 strategy_from x = (x.cplstre, (x.cplinu, (x.chincpl, (x.phsflginu, (x.cplbegf, (x.cplendf, x.cplbndstrc))))))
 
 -- one channel can't be coupled
@@ -106,7 +117,8 @@ alternating c = fitted (λ xs. (firsts xs, seconds xs)) (λ p. zipped p.0 p.1) (
 
 -- cplcoexp and cplcomant of each band
 unfoldable pub coordinate_each : ℕ → Codec (List (Option ℕ) × List (Option ℕ))
-coordinate_each bands = alternating (each 18 0 (λ k. pair (given (nat_lt k bands) (field 4 any)) (λ _. given (nat_lt k bands) (field 4 any))))
+coordinate_each bands = alternating (each 18 0 (λ k. pair (given (nat_lt k bands) (field 4 any))
+    (λ _. given (nat_lt k bands) (field 4 any))))
 
 abbrev pub channel_to : Option Bool × (Option ℕ × (List (Option ℕ) × List (Option ℕ))) → ChannelShared
 channel_to (a, (b, (c, d))) = record { cplcoe = a; mstrcplco = b; cplcoexp = c; cplcomant = d }
@@ -154,7 +166,13 @@ any_sent [] = false
 any_sent (x ∷ xs) = holds x.cplcoe || any_sent xs
 
 abbrev pub shared_to : List ChannelShared × List (Option Bool) → Shared
-shared_to p = record { cplcoe = coes p.0; mstrcplco = masters p.0; cplcoexp = coordinate_exps p.0; cplcomant = coordinate_mants p.0; phsflg = p.1 }
+shared_to p = record {
+  cplcoe = coes p.0;
+  mstrcplco = masters p.0;
+  cplcoexp = coordinate_exps p.0;
+  cplcomant = coordinate_mants p.0;
+  phsflg = p.1;
+}
 
 abbrev pub shared_from : Shared → List ChannelShared × List (Option Bool)
 shared_from x = (joined_channels x.cplcoe x.mstrcplco x.cplcoexp x.cplcomant, x.phsflg)
@@ -301,7 +319,8 @@ abbrev pub allocation_from : Allocation → ParameterFields × (OffsetFields × 
 allocation_from x = (parameters_of x, (offsets_of x, leaks_of x))
 
 unfoldable pub allocation : ℕ → Bool → Known → Coupling → Codec Allocation
-allocation full low known c = shaped allocation_to allocation_from (pair (parameters known.begun) (λ _. pair (offsets full low known c) (λ _. leaks known c)))
+allocation full low known c = shaped allocation_to allocation_from (pair (parameters known.begun)
+    (λ _. pair (offsets full low known c) (λ _. leaks known c)))
 
 -- ---- the rest (A/52 5.4.3.47, 5.4.3.58, 5.4.3.59)
 

@@ -147,11 +147,15 @@ filled_of h earlier b =
       cplbndstrc = listed 18 0 (λ k. needed (nat_le 1 k && nat_lt k (subbands c.range)) (λ d. entry d.cplbndstrc k) earlier b);
       cplcoe = b.cplcoe;
       mstrcplco = listed 5 0 (λ i. needed (channel_coupled c i) (λ d. entry d.mstrcplco i) earlier b);
-      cplcoexp = listed 5 0 (λ i. listed 18 0 (λ k. needed (channel_coupled c i && nat_lt k c.bands) (λ d. entry (slice_index_or d.cplcoexp i []) k) earlier b));
-      cplcomant = listed 5 0 (λ i. listed 18 0 (λ k. needed (channel_coupled c i && nat_lt k c.bands) (λ d. entry (slice_index_or d.cplcomant i []) k) earlier b));
-      phsflg = listed 18 0 (λ k. if stereo && nat_lt k c.bands then Some (c.phases && holds (held (λ d. entry d.phsflg k) earlier b)) else None);
+      cplcoexp = listed 5 0 (λ i. listed 18 0 (λ k. needed (channel_coupled c i
+          && nat_lt k c.bands) (λ d. entry (slice_index_or d.cplcoexp i []) k) earlier b));
+      cplcomant = listed 5 0 (λ i. listed 18 0 (λ k. needed (channel_coupled c i
+          && nat_lt k c.bands) (λ d. entry (slice_index_or d.cplcomant i []) k) earlier b));
+      phsflg = listed 18 0 (λ k. if stereo && nat_lt k c.bands
+          then Some (c.phases && holds (held (λ d. entry d.phsflg k) earlier b)) else None);
       rematstr = b.rematstr;
-      rematflg = listed 4 0 (λ k. if stereo && nat_lt k (rematrix_bands c.range) then Some (holds (held (λ d. entry d.rematflg k) earlier b)) else None);
+      rematflg = listed 4 0 (λ k. if stereo && nat_lt k (rematrix_bands c.range)
+          then Some (holds (held (λ d. entry d.rematflg k) earlier b)) else None);
       cplexpstr = b.cplexpstr;
       chexpstr = b.chexpstr;
       lfeexpstr = b.lfeexpstr;

@@ -14,13 +14,28 @@ abbrev pub start_of : Block → Start
 start_of b = record { blksw = b.blksw; dithflag = b.dithflag; dynrnge = b.dynrnge; dynrng = b.dynrng }
 
 abbrev pub strategy_of : Block → Strategy
-strategy_of b = record { cplstre = b.cplstre; cplinu = b.cplinu; chincpl = b.chincpl; phsflginu = b.phsflginu; cplbegf = b.cplbegf; cplendf = b.cplendf; cplbndstrc = b.cplbndstrc }
+strategy_of b = record {
+  cplstre = b.cplstre;
+  cplinu = b.cplinu;
+  chincpl = b.chincpl;
+  phsflginu = b.phsflginu;
+  cplbegf = b.cplbegf;
+  cplendf = b.cplendf;
+  cplbndstrc = b.cplbndstrc;
+}
 
 abbrev pub shared_of : Block → Shared
 shared_of b = record { cplcoe = b.cplcoe; mstrcplco = b.mstrcplco; cplcoexp = b.cplcoexp; cplcomant = b.cplcomant; phsflg = b.phsflg }
 
 abbrev pub codes_of : Block → Codes
-codes_of b = record { rematstr = b.rematstr; rematflg = b.rematflg; cplexpstr = b.cplexpstr; chexpstr = b.chexpstr; lfeexpstr = b.lfeexpstr; chbwcod = b.chbwcod }
+codes_of b = record {
+  rematstr = b.rematstr;
+  rematflg = b.rematflg;
+  cplexpstr = b.cplexpstr;
+  chexpstr = b.chexpstr;
+  lfeexpstr = b.lfeexpstr;
+  chbwcod = b.chbwcod;
+}
 
 abbrev pub exponents_of : Block → Exponents
 exponents_of b = record { cplabsexp = b.cplabsexp; exps = b.exps; gainrng = b.gainrng; lfeexps = b.lfeexps }
@@ -50,7 +65,8 @@ abbrev pub rest_of : Block → Rest
 rest_of b = record { deltbaie = b.deltbaie; skiple = b.skiple; skipl = b.skipl }
 
 -- and back, whatever the numbers of coordinates are
-abbrev pub block_with : {C : Type 0} → Start → Strategy → Shared → Codes → Exponents → Allocation → Rest → List (List C) → List (List C) → rows.Block C
+abbrev pub block_with : {C : Type 0} → Start → Strategy → Shared → Codes → Exponents → Allocation → Rest → List (List C)
+    → List (List C) → rows.Block C
 block_with a b c d e f g exps mants = record {
   blksw = a.blksw;
   dithflag = a.dithflag;

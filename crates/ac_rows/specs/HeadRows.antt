@@ -26,10 +26,50 @@ LayoutFields = ℕ × (ℕ × (ℕ × (ℕ × (ℕ × (ℕ × (ℕ × (Option �
 
 abbrev pub layout_to : LayoutFields → Layout
 layout_to (a, (b, (c, (d, (e, (f, (g, (h, (i, (j, (k, l))))))))))) =
-    record { syncword = a; crc1 = b; fscod = c; frmsizecod = d; bsid = e; bsmod = f; acmod = g; cmixlev = h; surmixlev = i; dsurmod = j; lfeon = k; dialnorm = l }
+    record {
+      syncword = a;
+      crc1 = b;
+      fscod = c;
+      frmsizecod = d;
+      bsid = e;
+      bsmod = f;
+      acmod = g;
+      cmixlev = h;
+      surmixlev = i;
+      dsurmod = j;
+      lfeon = k;
+      dialnorm = l;
+    }
 
 abbrev pub layout_from : Layout → LayoutFields
-layout_from x = (x.syncword, (x.crc1, (x.fscod, (x.frmsizecod, (x.bsid, (x.bsmod, (x.acmod, (x.cmixlev, (x.surmixlev, (x.dsurmod, (x.lfeon, x.dialnorm)))))))))))
+layout_from x = (
+  x.syncword,
+  (
+    x.crc1,
+    (
+      x.fscod,
+      (
+        x.frmsizecod,
+        (
+          x.bsid,
+          (
+            x.bsmod,
+            (
+              x.acmod,
+              (
+                x.cmixlev,
+                (
+                  x.surmixlev,
+                  (x.dsurmod, (x.lfeon, x.dialnorm)),
+                ),
+              ),
+            ),
+          ),
+        ),
+      ),
+    ),
+  ),
+)
 
 unfoldable pub layout_rows : Codec LayoutFields
 layout_rows =
@@ -50,14 +90,55 @@ unfoldable pub layout : Codec Layout
 layout = shaped layout_to layout_from layout_rows
 
 abbrev pub ServiceFields : Type 0
-ServiceFields = Bool × (Option ℕ × (Bool × (Option ℕ × (Bool × (Option ℕ × (Option ℕ × (Bool × (Bool × (Bool × (Option ℕ × (Bool × (Option ℕ × (Bool × Option ℕ)))))))))))))
+ServiceFields = Bool × (Option ℕ × (Bool × (Option ℕ × (Bool × (Option ℕ × (Option ℕ × (Bool × (Bool × (Bool × (Option ℕ
+    × (Bool × (Option ℕ × (Bool × Option ℕ)))))))))))))
 
 abbrev pub service_to : ServiceFields → Service
 service_to (a, (b, (c, (d, (e, (f, (g, (h, (i, (j, (k, (l, (m, (n, o)))))))))))))) =
-    record { compre = a; compr = b; langcode = c; langcod = d; audprodie = e; mixlevel = f; roomtyp = g; copyrightb = h; origbs = i; timecod1e = j; timecod1 = k; timecod2e = l; timecod2 = m; addbsie = n; addbsil = o }
+    record {
+      compre = a;
+      compr = b;
+      langcode = c;
+      langcod = d;
+      audprodie = e;
+      mixlevel = f;
+      roomtyp = g;
+      copyrightb = h;
+      origbs = i;
+      timecod1e = j;
+      timecod1 = k;
+      timecod2e = l;
+      timecod2 = m;
+      addbsie = n;
+      addbsil = o;
+    }
 
 abbrev pub service_from : Service → ServiceFields
-service_from x = (x.compre, (x.compr, (x.langcode, (x.langcod, (x.audprodie, (x.mixlevel, (x.roomtyp, (x.copyrightb, (x.origbs, (x.timecod1e, (x.timecod1, (x.timecod2e, (x.timecod2, (x.addbsie, x.addbsil))))))))))))))
+service_from x = (
+  x.compre,
+  (
+    x.compr,
+    (
+      x.langcode,
+      (
+        x.langcod,
+        (
+          x.audprodie,
+          (
+            x.mixlevel,
+            (
+              x.roomtyp,
+              (
+                x.copyrightb,
+                (x.origbs, (x.timecod1e, (x.timecod1, (x.timecod2e, (x.timecod2, (x.addbsie, x.addbsil)))))),
+              ),
+            ),
+          ),
+        ),
+      ),
+    ),
+  ),
+)
 
 unfoldable pub service_rows : Codec ServiceFields
 service_rows =

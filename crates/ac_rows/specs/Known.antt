@@ -49,7 +49,15 @@ after k b =
     let c = coupling_of s in
     record {
       begun = true;
-      strategy = record { cplstre = false; cplinu = s.cplinu; chincpl = s.chincpl; phsflginu = s.phsflginu; cplbegf = s.cplbegf; cplendf = s.cplendf; cplbndstrc = s.cplbndstrc };
+      strategy = record {
+        cplstre = false;
+        cplinu = s.cplinu;
+        chincpl = s.chincpl;
+        phsflginu = s.phsflginu;
+        cplbegf = s.cplbegf;
+        cplendf = s.cplendf;
+        cplbndstrc = s.cplbndstrc;
+      };
       coordinates = listed 5 0 (λ i. option_or (bands_given c b i) (entry k.coordinates i));
       sent = option_or (range_sent c b) k.sent;
       ends = listed 5 0 (λ i. option_or (end_sent c b i) (entry k.ends i));

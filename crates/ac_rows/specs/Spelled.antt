@@ -30,7 +30,8 @@ is_outside lead s step = nat_lt (sum_to lead s step) (2 * step) || nat_lt (2 * s
 -- the bin is one of the span, its step is of the group at a place, and its exponent is outside
 abbrev pub is_bad_bin : ℕ → Span → Spelling → ℕ → ℕ → Bool
 is_bad_bin kind span s place k =
-    nat_le span.start k && nat_lt (3 * place) (step_of kind span k) && nat_le (step_of kind span k) (3 * place + 3) && is_outside span.lead s (step_of kind span k)
+    nat_le span.start k && nat_lt (3 * place) (step_of kind span k) && nat_le (step_of kind span k) (3 * place + 3)
+    && is_outside span.lead s (step_of kind span k)
 
 -- a group is over 124, or gives an exponent outside 0 to 24 at a bin below the end
 abbrev pub is_bad_group : ℕ → Span → Spelling → ℕ → Bool
@@ -56,7 +57,8 @@ groups_row n = shaped spelling_to spelling_from (pair (field 4 any) (λ _. each 
 
 -- the exponents of a coded channel in a kind, as one field
 unfoldable pub spelled_row : ℕ → Span → ℕ → Codec Spelling
-spelled_row kind span channel = single (4 + 7 * groups_of kind span) (λ s. bad_exponent channel (first_bad kind span s)) (groups_row (groups_of kind span))
+spelled_row kind span channel = single (4 + 7 * groups_of kind span)
+    (λ s. bad_exponent channel (first_bad kind span s)) (groups_row (groups_of kind span))
 
 -- their bits
 abbrev pub spelling_bits : Spelling → List Bool

@@ -42,9 +42,11 @@ fn write_groups(b: &Block, full: u8, sink: &mut BitSink)
 pub fn write_block(head: &Head, earlier: &[Block], block: &Block, sink: &mut BitSink)
     requires head { head_fields.Lawful head.now }
     requires lawful { (block_fields head.now earlier.now).Lawful block.now }
-    requires room { length sink.old + length ((whole_block head.now earlier.now).spell (block.now, replicate (skip_bits block.now) false)) ≤ 30720 }
+    requires room { length sink.old + length
+        ((whole_block head.now earlier.now).spell (block.now, replicate (skip_bits block.now) false)) ≤ 30720 }
     ensures adds { Appends sink.old sink.new ((whole_block head.now earlier.now).spell (block.now, replicate (skip_bits block.now) false)) }
-    ensures len { length sink.new ≡ length sink.old + length ((whole_block head.now earlier.now).spell (block.now, replicate (skip_bits block.now) false)) }
+    ensures len { length sink.new ≡ length sink.old + length
+        ((whole_block head.now earlier.now).spell (block.now, replicate (skip_bits block.now) false)) }
 {
     write_groups(block, full_channels(head.acmod), sink);
     put_zeros(sink, skipped(block.skipl));

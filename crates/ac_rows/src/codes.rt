@@ -49,7 +49,8 @@ fn read_one(
     i: u8,
 ) -> Result<u8, Refused>
     requires { i < 5 }
-    ensures { Gives result source.new ((slot (nat_lt i full) 0 (field 2 (reused (may_keep_channel known.now c.now i) Chexpstr))).read source.old) }
+    ensures { Gives result source.new ((slot (nat_lt i full) 0 (field 2 (reused
+        (may_keep_channel known.now c.now i) Chexpstr))).read source.old) }
 {
     let may = may_keep_channel(known, c, usize::from(i));
     slot_reusing(source, i < full, 2, may, Row::Chexpstr)

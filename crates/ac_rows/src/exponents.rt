@@ -76,7 +76,9 @@ fn read_channel(
     requires within { i < 5 }
     requires range { HasSubbands c.now.range }
     requires codes { CodesFit c.now k.now }
-    ensures { Gives result source.new ((pair (given (nat_lt 0 (slice_index k.now.chexpstr i)) (spelled_row (slice_index k.now.chexpstr i) (sent_span c.now k.now.chbwcod i) i)) (λ _. given (nat_lt 0 (slice_index k.now.chexpstr i)) (field 2 any))).read source.old) }
+    ensures { Gives result source.new ((pair (given (nat_lt 0 (slice_index k.now.chexpstr i)) (spelled_row
+        (slice_index k.now.chexpstr i) (sent_span c.now k.now.chbwcod i) i))
+        (λ _. given (nat_lt 0 (slice_index k.now.chexpstr i)) (field 2 any))).read source.old) }
 {
     let kind = k.chexpstr[usize::from(i)];
     let span = span_of(c, &k.chbwcod, i);

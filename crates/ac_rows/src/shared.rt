@@ -58,7 +58,8 @@ fn read_own(
     i: usize,
 ) -> Result<ChannelShared, Refused>
     requires { i < 5 }
-    ensures { Gives result source.new ((channel_shared (channel_coupled c.now i) (may_keep_coordinates known.now c.now i) c.now.bands).read source.old) }
+    ensures { Gives result source.new ((channel_shared (channel_coupled c.now i)
+        (may_keep_coordinates known.now c.now i) c.now.bands).read source.old) }
 {
     let may = may_keep_coordinates(known, c, i);
     read_channel(source, c.coupled[i], may, c.bands)

@@ -62,9 +62,24 @@ fn write_channel(
     requires master { ForSome mstrcplco (λ v. v < 2 ^ 2) }
     requires exps { (k : ℕ) → k < 18 → ForSome (entry exps.now k) (λ v. v < 2 ^ 4) }
     requires mants { (k : ℕ) → k < 18 → ForSome (entry mants.now k) (λ v. v < 2 ^ 4) }
-    requires room { length sink.old + length (channel_bits (record { cplcoe = cplcoe; mstrcplco = mstrcplco; cplcoexp = exps.now; cplcomant = mants.now })) ≤ 30720 }
-    ensures adds { Appends sink.old sink.new (channel_bits (record { cplcoe = cplcoe; mstrcplco = mstrcplco; cplcoexp = exps.now; cplcomant = mants.now })) }
-    ensures len { length sink.new ≡ length sink.old + length (channel_bits (record { cplcoe = cplcoe; mstrcplco = mstrcplco; cplcoexp = exps.now; cplcomant = mants.now })) }
+    requires room { length sink.old + length (channel_bits (record {
+      cplcoe = cplcoe;
+      mstrcplco = mstrcplco;
+      cplcoexp = exps.now;
+      cplcomant = mants.now;
+    })) ≤ 30720 }
+    ensures adds { Appends sink.old sink.new (channel_bits (record {
+      cplcoe = cplcoe;
+      mstrcplco = mstrcplco;
+      cplcoexp = exps.now;
+      cplcomant = mants.now;
+    })) }
+    ensures len { length sink.new ≡ length sink.old + length (channel_bits (record {
+      cplcoe = cplcoe;
+      mstrcplco = mstrcplco;
+      cplcoexp = exps.now;
+      cplcomant = mants.now;
+    })) }
 {
     put_optional_bit(sink, cplcoe);
     put_optional(sink, mstrcplco, 2);
@@ -84,7 +99,8 @@ fn write_channels(
     requires mants { (i : ℕ) → i < 5 → (k : ℕ) → k < 18 → ForSome (entry (slice_index_or mants.now i []) k) (λ v. v < 2 ^ 4) }
     requires room { length sink.old + length (spelled_each channel_bits (joined_channels coes.now masters.now exps.now mants.now)) ≤ 30720 }
     ensures adds { Appends sink.old sink.new (spelled_each channel_bits (joined_channels coes.now masters.now exps.now mants.now)) }
-    ensures len { length sink.new ≡ length sink.old + length (spelled_each channel_bits (joined_channels coes.now masters.now exps.now mants.now)) }
+    ensures len { length sink.new ≡ length sink.old + length (spelled_each channel_bits
+        (joined_channels coes.now masters.now exps.now mants.now)) }
 {
     for i in 0..5 {
         write_channel(coes[i], masters[i], &exps[i], &mants[i], sink);

@@ -25,10 +25,14 @@ filled_by h c k b =
       cplendf = or_if used b.cplendf k.cplendf;
       cplbndstrc = listed 18 0 (λ j. or_if (nat_le 1 j && nat_lt j (subbands c.range)) (entry b.cplbndstrc j) (entry k.cplbndstrc j));
       mstrcplco = listed 5 0 (λ i. or_if (channel_coupled c i) (entry b.mstrcplco i) (entry k.mstrcplco i));
-      cplcoexp = listed 5 0 (λ i. listed 18 0 (λ j. or_if (channel_coupled c i && nat_lt j c.bands) (entry (slice_index_or b.cplcoexp i []) j) (entry (slice_index_or k.cplcoexp i []) j)));
-      cplcomant = listed 5 0 (λ i. listed 18 0 (λ j. or_if (channel_coupled c i && nat_lt j c.bands) (entry (slice_index_or b.cplcomant i []) j) (entry (slice_index_or k.cplcomant i []) j)));
-      phsflg = listed 18 0 (λ j. if stereo && nat_lt j c.bands then Some (c.phases && holds (option_or (entry b.phsflg j) (entry k.phsflg j))) else None);
-      rematflg = listed 4 0 (λ j. if stereo && nat_lt j (rematrix_bands c.range) then Some (holds (option_or (entry b.rematflg j) (entry k.rematflg j))) else None);
+      cplcoexp = listed 5 0 (λ i. listed 18 0 (λ j. or_if (channel_coupled c i
+          && nat_lt j c.bands) (entry (slice_index_or b.cplcoexp i []) j) (entry (slice_index_or k.cplcoexp i []) j)));
+      cplcomant = listed 5 0 (λ i. listed 18 0 (λ j. or_if (channel_coupled c i
+          && nat_lt j c.bands) (entry (slice_index_or b.cplcomant i []) j) (entry (slice_index_or k.cplcomant i []) j)));
+      phsflg = listed 18 0 (λ j. if stereo && nat_lt j c.bands
+          then Some (c.phases && holds (option_or (entry b.phsflg j) (entry k.phsflg j))) else None);
+      rematflg = listed 4 0 (λ j. if stereo && nat_lt j (rematrix_bands c.range)
+          then Some (holds (option_or (entry b.rematflg j) (entry k.rematflg j))) else None);
       chbwcod = listed 5 0 (λ i. if channel_coupled c i then None else or_if (nat_lt i full) (entry b.chbwcod i) (entry k.chbwcod i));
       cplabsexp = or_if used b.cplabsexp k.cplabsexp;
       exps = listed 5 0 (λ i. or_if (nat_lt i full) (entry b.exps i) (entry k.exps i));

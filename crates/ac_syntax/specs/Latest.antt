@@ -21,8 +21,10 @@ over b kept = record {
   cplbndstrc = listed 18 0 (λ k. option_or (entry b.cplbndstrc k) (entry kept.cplbndstrc k));
   cplcoe = kept.cplcoe;
   mstrcplco = listed 5 0 (λ i. option_or (entry b.mstrcplco i) (entry kept.mstrcplco i));
-  cplcoexp = listed 5 0 (λ i. listed 18 0 (λ k. option_or (entry (slice_index_or b.cplcoexp i []) k) (entry (slice_index_or kept.cplcoexp i []) k)));
-  cplcomant = listed 5 0 (λ i. listed 18 0 (λ k. option_or (entry (slice_index_or b.cplcomant i []) k) (entry (slice_index_or kept.cplcomant i []) k)));
+  cplcoexp = listed 5 0 (λ i. listed 18 0 (λ k. option_or (entry (slice_index_or b.cplcoexp i []) k) (entry
+      (slice_index_or kept.cplcoexp i []) k)));
+  cplcomant = listed 5 0 (λ i. listed 18 0
+      (λ k. option_or (entry (slice_index_or b.cplcomant i []) k) (entry (slice_index_or kept.cplcomant i []) k)));
   phsflg = listed 18 0 (λ k. option_or (entry b.phsflg k) (entry kept.phsflg k));
   rematstr = kept.rematstr;
   rematflg = listed 4 0 (λ k. option_or (entry b.rematflg k) (entry kept.rematflg k));

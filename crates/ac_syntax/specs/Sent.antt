@@ -63,5 +63,6 @@ FirstIsSide =
 -- and of a later block
 abbrev pub LaterIsSide : Type 0
 LaterIsSide =
-    (h : Head) (couple : Option (ℕ × ℕ)) (earlier : List Block) (b : Block) → head_fields.Lawful h → AreLawful h earlier → (block_fields h earlier).Lawful b → IsLaterSent h couple earlier b
+    (h : Head) (couple : Option (ℕ × ℕ)) (earlier : List Block) (b : Block) → head_fields.Lawful h → AreLawful h earlier
+    → (block_fields h earlier).Lawful b → IsLaterSent h couple earlier b
     → length ((block_fields h earlier).spell b) ≡ sum (later_block_rows h.acmod h.lfeon couple) + exponent_rows b

@@ -89,7 +89,8 @@ fn coupled_flags(
     kept: &[Option<bool>; 5],
 ) -> [Option<bool>; 5]
     requires { h.now.acmod ≤ 7 }
-    ensures { result ≡ listed 5 0 (λ i. or_if (is_some c.now.range && nat_lt i (full_of h.now.acmod)) (entry own.now i) (entry kept.now i)) }
+    ensures { result ≡ listed 5 0 (λ i. or_if (is_some c.now.range
+        && nat_lt i (full_of h.now.acmod)) (entry own.now i) (entry kept.now i)) }
 {
     let full = usize::from(full_channels(h.acmod));
     let used = is_used(c);
@@ -132,7 +133,8 @@ fn needed_width(coupled: bool, there: bool, own: Option<u8>, kept: Option<u8>) -
 #[tactic(auto, unfolding(ac_rows::specs::Filled::listed))]
 fn widths(h: &Head, c: &Coupling, own: &[Option<u8>; 5], kept: &[Option<u8>; 5]) -> [Option<u8>; 5]
     requires { h.now.acmod ≤ 7 }
-    ensures { result ≡ listed 5 0 (λ i. if channel_coupled c.now i then None else or_if (nat_lt i (full_of h.now.acmod)) (entry own.now i) (entry kept.now i)) }
+    ensures { result ≡ listed 5 0 (λ i. if channel_coupled c.now i
+        then None else or_if (nat_lt i (full_of h.now.acmod)) (entry own.now i) (entry kept.now i)) }
 {
     let full = usize::from(full_channels(h.acmod));
     [
@@ -213,7 +215,8 @@ fn phase_flags_where(
     own: &[Option<bool>; 18],
     kept: &[Option<bool>; 18],
 ) -> [Option<bool>; 18]
-    ensures { result ≡ listed 18 0 (λ j. if two && nat_lt j c.now.bands then Some (c.now.phases && holds (option_or (entry own.now j) (entry kept.now j))) else None) }
+    ensures { result ≡ listed 18 0 (λ j. if two && nat_lt j c.now.bands
+        then Some (c.now.phases && holds (option_or (entry own.now j) (entry kept.now j))) else None) }
 {
     let mut all = [None; 18];
     for j in 0..18 {
@@ -253,7 +256,8 @@ fn rematrix_flags(
     own: &[Option<bool>; 4],
     kept: &[Option<bool>; 4],
 ) -> [Option<bool>; 4]
-    ensures { result ≡ listed 4 0 (λ j. if is_stereo h.now.acmod && nat_lt j (rematrix_bands c.now.range) then Some (holds (option_or (entry own.now j) (entry kept.now j))) else None) }
+    ensures { result ≡ listed 4 0 (λ j. if is_stereo h.now.acmod && nat_lt j (rematrix_bands c.now.range)
+        then Some (holds (option_or (entry own.now j) (entry kept.now j))) else None) }
 {
     let count = rematrix_count(c);
     let two = stereo(h.acmod);
@@ -282,7 +286,8 @@ fn phase_flags(
     own: &[Option<bool>; 18],
     kept: &[Option<bool>; 18],
 ) -> [Option<bool>; 18]
-    ensures { result ≡ listed 18 0 (λ j. if is_stereo h.now.acmod && nat_lt j c.now.bands then Some (c.now.phases && holds (option_or (entry own.now j) (entry kept.now j))) else None) }
+    ensures { result ≡ listed 18 0 (λ j. if is_stereo h.now.acmod && nat_lt j c.now.bands
+        then Some (c.now.phases && holds (option_or (entry own.now j) (entry kept.now j))) else None) }
 {
     phase_flags_where(stereo(h.acmod), c, own, kept)
 }

@@ -87,7 +87,8 @@ fn band_numbers(own: &[Option<u8>; 18], kept: &[Option<u8>; 18]) -> [Option<u8>;
 /// The same by channel and band.
 #[tactic(auto, unfolding(ac_rows::specs::Filled::listed))]
 fn coordinates(own: &[[Option<u8>; 18]; 5], kept: &[[Option<u8>; 18]; 5]) -> [[Option<u8>; 18]; 5]
-    ensures { result ≡ listed 5 0 (λ i. listed 18 0 (λ k. option_or (entry (slice_index_or own.now i []) k) (entry (slice_index_or kept.now i []) k))) }
+    ensures { result ≡ listed 5 0 (λ i. listed 18 0
+        (λ k. option_or (entry (slice_index_or own.now i []) k) (entry (slice_index_or kept.now i []) k))) }
 {
     [
         band_numbers(&own[0], &kept[0]),

@@ -14,8 +14,10 @@ ghost use Rattle.ac_syntax.specs.Sent.{HeadIsSide, FirstIsSide, LaterIsSide};
 pub fn syntax_laws()
     ensures head { IsFaithful whole_head }
     ensures block { (h : Head) (earlier : List Block) → IsFaithful (whole_block h earlier) }
-    ensures front { (h : Head) (earlier : List Block) (b : Block) → AreLawful h earlier → (block_fields h earlier).Lawful b → AreLawful h (earlier ++ b ∷ []) }
-    ensures spans { (h : Head) (earlier : List Block) (b : Block) → head_fields.Lawful h → AreLawful h earlier → (block_fields h earlier).Lawful b →
+    ensures front { (h : Head) (earlier : List Block) (b : Block) → AreLawful h earlier
+        → (block_fields h earlier).Lawful b → AreLawful h (earlier ++ b ∷ []) }
+    ensures spans { (h : Head) (earlier : List Block) (b : Block) → head_fields.Lawful h → AreLawful h earlier
+        → (block_fields h earlier).Lawful b →
         HasSpans h (filled_of h earlier b) }
 {}
 

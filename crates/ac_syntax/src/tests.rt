@@ -223,7 +223,11 @@ fn next(
     requires earlier { AreLawful head.now earlier.now }
     requires count { length earlier.now ≤ 5 }
     ensures lawful { IfOk result (λ b. (block_fields head.now earlier.now).Lawful b) }
-    ensures len { IfOk result (λ b. length ((whole_block head.now earlier.now).spell (b, replicate (skip_bits b) false)) ≤ length source.old) }
+    ensures len { IfOk result (λ b. length ((whole_block head.now earlier.now).spell (
+      b,
+      replicate
+          (skip_bits b) false,
+    )) ≤ length source.old) }
 {
     let block = read_block(head, earlier, source)?;
     pass_over(source, mants);
@@ -232,7 +236,8 @@ fn next(
 
 fn heads(source: &mut BitSource) -> Result<Head, Refused>
     ensures lawful { IfOk result (λ h. head_fields.Lawful h) }
-    ensures len { IfOk result (λ h. length source.old ≡ length (whole_head.spell (h, replicate (addbsi_bits h) false)) + length source.new) }
+    ensures len { IfOk result (λ h. length source.old
+        ≡ length (whole_head.spell (h, replicate (addbsi_bits h) false)) + length source.new) }
 {
     read_head(source)
 }
