@@ -40,3 +40,6 @@ pub use head_reading::read_head;
 pub use head_writing::write_head;
 pub use known::{coupling_of, over};
 pub use optional::{both, holds, number};
+
+#[cfg(test)]
+mod tests;
