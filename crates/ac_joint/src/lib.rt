@@ -1,6 +1,9 @@
 //! Coupling: the coordinates by which the coupled channels come back from the coupling channel.
 #![tactic(auto)]
 
+ghost use Rattle.std.specs.Prelude.{◌≡◌, ◌≤◌};
+ghost use Rattle.ac_joint.specs.Factor.{factor_of};
+
 /// A coupling coordinate: the exponent and the mantissa of the factor of a channel in a band (A/52 5.4.3.16, 5.4.3.17).
 #[derive(Clone, Copy, Debug, PartialEq, Eq)]
 pub struct Coordinate {
@@ -15,4 +18,17 @@ pub struct Coordinate {
 pub struct Coordinates {
     /// By channel and band. Entries that stand for no channel or band say nothing.
     pub of: [[Coordinate; 18]; 5],
+}
+
+/// The factor of a coordinate with mstrcplco 0, in units of 2^-19 (A/52 7.4.3). Both fields have 4 bits.
+pub fn factor(x: Coordinate) -> u32
+    requires exp { x.exp ≤ 15 }
+    requires mant { x.mant ≤ 15 }
+    ensures value { result ≡ factor_of x.exp x.mant }
+{
+    if x.exp == 15 {
+        u32::from(x.mant)
+    } else {
+        (u32::from(x.mant) + 16) << (14 - x.exp)
+    }
 }
