@@ -32,3 +32,28 @@ pub fn factor(x: Coordinate) -> u32
         (u32::from(x.mant) + 16) << (14 - x.exp)
     }
 }
+
+#[cfg(test)]
+mod tests {
+    use super::*;
+
+    /// A/52 7.4.3, by hand: (16 + mant) / 32 of 2^-exp, and mant / 16 of 2^-15, in units of 2^-19.
+    #[test]
+    fn factors_by_exponent_and_mantissa(rt: HostRuntime) {
+        let table = [
+            (0, 0, 262144),
+            (0, 15, 507904),
+            (1, 8, 196608),
+            (13, 3, 38),
+            (14, 0, 16),
+            (14, 15, 31),
+            (15, 0, 0),
+            (15, 15, 15),
+        ];
+        for (exp, mant, units) in table {
+            if exp <= 15 && mant <= 15 {
+                assert_eq!(rt; factor(Coordinate { exp, mant }), units);
+            }
+        }
+    }
+}
