@@ -5,7 +5,8 @@ use Rattle.ac_codec.specs.Codec.{Codec, Outcome}
 use Rattle.ac_codec.specs.Meaning.{IsNeverBoth, HasOneRefusal, IsFaithful}
 use Rattle.ac_codec.proofs.Sound.{Sound, one_value, err_pair}
 
-decided_by : {A : Type 0} (c : Codec A) → Sound c → (l : List Bool) (o : Outcome A) → c.read l ≡ o → ((a : A) × (rest : List Bool) × (c.Lawful a × (l ≡ c.spell a ++ rest))) ⊎ ((e : Refused) × (at : List Bool) × c.Refuses l e at)
+decided_by : {A : Type 0} (c : Codec A) → Sound c → (l : List Bool) (o : Outcome A) → c.read l ≡ o
+    → ((a : A) × (rest : List Bool) × (c.Lawful a × (l ≡ c.spell a ++ rest))) ⊎ ((e : Refused) × (at : List Bool) × c.Refuses l e at)
 decided_by c s l (Ok x) e = inl (x.0, x.1, s.found l x.0 x.1 e)
 decided_by c s l (Err x) e = inr (x.0, x.1, s.refused l x.0 x.1 e)
 

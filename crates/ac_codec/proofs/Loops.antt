@@ -8,11 +8,13 @@ use Rattle.ac_codec.specs.Codec.{Codec, Outcome, ◌>>=◌, each, cons, absent}
 abbrev pub front_then : {A : Type 0} → List A → Outcome (List A) → Outcome (List A)
 front_then front read = read >>= λ x. Ok (front ++ x.0, x.1)
 
-regroup : {A : Type 0} (front : List A) (a : A) (read : Outcome (List A)) → front_then front (read >>= λ y. Ok (a ∷ y.0, y.1)) ≡ front_then (front ++ a ∷ []) read
+regroup : {A : Type 0} (front : List A) (a : A) (read : Outcome (List A))
+    → front_then front (read >>= λ y. Ok (a ∷ y.0, y.1)) ≡ front_then (front ++ a ∷ []) read
 regroup {A} front a (Ok x) = ap (λ (l : List A). Ok (l, x.1)) (sym (append_assoc front (a ∷ []) x.0))
 regroup front a (Err e) = refl
 
-pub goes_on : {A : Type 0} (c : ℕ → Codec A) (front : List A) (a : A) (n i : ℕ) (l rest : List Bool) (total : Outcome (List A)) → i < n → (c i).read l ≡ Ok (a, rest)
+pub goes_on : {A : Type 0} (c : ℕ → Codec A) (front : List A) (a : A) (n i : ℕ) (l rest : List Bool) (total : Outcome (List A)) → i < n
+    → (c i).read l ≡ Ok (a, rest)
     → front_then front ((each (n - i) i c).read l) ≡ total → front_then (front ++ a ∷ []) ((each (n - (i + 1)) (i + 1) c).read rest) ≡ total
 unfolding each cons
 goes_on c front a n i l rest total lt h so_far =
@@ -22,7 +24,8 @@ goes_on c front a n i l rest total lt h so_far =
     rw (k, h, e) (regroup front a ((each (n - suc i) (suc i) c).read rest)) in
     sym one ∙ so_far
 
-pub ends : {A : Type 0} (c : ℕ → Codec A) (front : List A) (n i : ℕ) (l : List Bool) (e : Refused) (at : List Bool) (total : Outcome (List A)) → i < n → (c i).read l ≡ Err (e, at)
+pub ends : {A : Type 0} (c : ℕ → Codec A) (front : List A) (n i : ℕ) (l : List Bool) (e : Refused) (at : List Bool)
+    (total : Outcome (List A)) → i < n → (c i).read l ≡ Err (e, at)
     → front_then front ((each (n - i) i c).read l) ≡ total → total ≡ Err (e, at)
 unfolding each cons
 ends {A} c front n i l e at total lt h so_far =

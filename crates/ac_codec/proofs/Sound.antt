@@ -1,5 +1,7 @@
--- What is read is spelled so, what is spelled so is read, and what is refused is refused there: for each kind of row, and so for all that are made of them.
-use Rattle.std.proofs.Common.{◌≡◌, ℕ, zero, suc, ◌+◌, ◌<◌, ◌≤◌, ◌^◌, ◌⊎◌, inl, inr, Bool, true, false, List, [], ◌∷◌, ◌++◌, length, take, drop, Option, Some, None, Result, Ok, Err, refl, ap, sym, subst, ◌∙◌, arith, length-append, append_assoc}
+-- What is read is spelled so, what is spelled so is read, and what is refused is refused there: for each kind of row, and so for all that
+-- are made of them.
+use Rattle.std.proofs.Common.{◌≡◌, ℕ, zero, suc, ◌+◌, ◌<◌, ◌≤◌, ◌^◌, ◌⊎◌, inl, inr, Bool, true, false, List, [], ◌∷◌, ◌++◌, length, take}
+use Rattle.std.proofs.Common.{drop, Option, Some, None, Result, Ok, Err, refl, ap, sym, subst, ◌∙◌, arith, length-append, append_assoc}
 use Rattle.std.proofs.lemmas.Bool.{le-ltb, lt-ltb, cases_lt}
 use Rattle.std.proofs.lemmas.List.{take_at, drop_at, take-append-drop, length-take-le}
 use Rattle.ac_bits.specs.Bits.{bits, num}
@@ -7,7 +9,10 @@ use Rattle.ac_bits.proofs.Laws.{bits-num, num_below}
 use Rattle.ac_codec.specs.declared.refused.Refused.{Refused}
 use Rattle.ac_codec.specs.declared.refused.Refused.TheVariants.{OutOfBits}
 use Rattle.std.specs.Prelude.{IfOk, IfErr}
-use Rattle.ac_codec.specs.Codec.{Codec, Outcome, Gives, ◌>>=◌, field, field_read, checked, test, test_read, tested, absent, pair, shaped, fitted, free, free_read, GivesPart, given, slot, slot_spell, SlotLawful, cons, each, cons_then, then_spell, ThenLawful, judged, judged_as, single, single_read, some_spell, cons_spell, ConsLawful}
+use Rattle.ac_codec.specs.Codec.{Codec, Outcome, Gives, ◌>>=◌, field, field_read, checked, tested_bit, tested_bit_read, tested, absent}
+use Rattle.ac_codec.specs.Codec.{pair, shaped, fitted, free, free_read, GivesPart, given, slot, slot_spell, SlotLawful, cons, each}
+use Rattle.ac_codec.specs.Codec.{cons_then, then_spell, ThenLawful, judged, judged_as, single, single_read, some_spell, cons_spell}
+use Rattle.ac_codec.specs.Codec.{ConsLawful}
 use Rattle.std.specs.Prelude.{is_some}
 use Rattle.std.specs.Option.{ForSome}
 use Rattle.ac_codec.proofs.Reading.{field_at, field_refused, field_out}
@@ -19,16 +24,19 @@ pub record Sound {A : Type 0} (c : Codec A) : Type 0 where
   pub refuses : (l : List Bool) (e : Refused) (at : List Bool) → c.Refuses l e at → c.read l ≡ Err (e, at)
 
 -- the outcome of a step that did not fail, and of one that did
-pub bind_ok : {A B : Type 0} (r : Outcome A) (f : A × List Bool → Outcome B) (y : B × List Bool) → (r >>= f) ≡ Ok y → (x : A × List Bool) × (r ≡ Ok x) × (f x ≡ Ok y)
+pub bind_ok : {A B : Type 0} (r : Outcome A) (f : A × List Bool → Outcome B) (y : B × List Bool) → (r >>= f) ≡ Ok y
+    → (x : A × List Bool) × (r ≡ Ok x) × (f x ≡ Ok y)
 bind_ok (Ok x) f y e = (x, refl, e)
 bind_ok (Err d) f y e = absurd cc
 
-pub bind_err : {A B : Type 0} (r : Outcome A) (f : A × List Bool → Outcome B) (y : Refused × List Bool) → (r >>= f) ≡ Err y → (r ≡ Err y) ⊎ ((x : A × List Bool) × (r ≡ Ok x) × (f x ≡ Err y))
+pub bind_err : {A B : Type 0} (r : Outcome A) (f : A × List Bool → Outcome B) (y : Refused × List Bool) → (r >>= f) ≡ Err y
+    → (r ≡ Err y) ⊎ ((x : A × List Bool) × (r ≡ Ok x) × (f x ≡ Err y))
 bind_err (Ok x) f y e = inr (x, refl, e)
 bind_err (Err d) f y e = inl cc
 
 -- a step after which nothing fails
-bind_later : {A B : Type 0} (r : Outcome A) (f : A × List Bool → B × List Bool) (y : Refused × List Bool) → (r >>= λ x. Ok (f x)) ≡ Err y → r ≡ Err y
+bind_later : {A B : Type 0} (r : Outcome A) (f : A × List Bool → B × List Bool) (y : Refused × List Bool) → (r >>= λ x. Ok (f x)) ≡ Err y
+    → r ≡ Err y
 bind_later (Ok x) f y e = absurd cc
 bind_later (Err d) f y e = cc
 
@@ -61,14 +69,18 @@ checked_ok : (o : Option Refused) (v a : ℕ) (l rest r : List Bool) → checked
 checked_ok None v a l rest r e = let h = ok_pair v a rest r e in (refl, h.0, h.1)
 checked_ok (Some d) v a l rest r e = absurd cc
 
-checked_err : (o : Option Refused) (v : ℕ) (l rest : List Bool) (d : Refused) (at : List Bool) → checked o v l rest ≡ Err (d, at) → (o ≡ Some d) × (at ≡ l)
+checked_err : (o : Option Refused) (v : ℕ) (l rest : List Bool) (d : Refused) (at : List Bool) → checked o v l rest ≡ Err (d, at)
+    → (o ≡ Some d) × (at ≡ l)
 checked_err None v l rest d at e = absurd cc
 checked_err (Some x) v l rest d at e = let h = err_pair {A = ℕ} x d l at e in (ap (λ (y : Refused). Some y) h.0, sym h.1)
 
 FieldRefuses : ℕ → (ℕ → Option Refused) → List Bool → Refused → List Bool → Type 0
-FieldRefuses w refuse l e at = (at ≡ l) × (((length l < w) × (e ≡ OutOfBits)) ⊎ ((v : ℕ) × (rest : List Bool) × (v < 2 ^ w) × (l ≡ bits v w ++ rest) × (refuse v ≡ Some e)))
+FieldRefuses w refuse l e at =
+    (at ≡ l) × (((length l < w) × (e ≡ OutOfBits)) ⊎ ((v : ℕ) × (rest : List Bool) × (v < 2 ^ w) × (l ≡ bits v w ++ rest)
+    × (refuse v ≡ Some e)))
 
-field_found : (w : ℕ) (refuse : ℕ → Option Refused) (l : List Bool) (a : ℕ) (rest : List Bool) → (length l < w) ⊎ (w ≤ length l) → field_read w refuse l ≡ Ok (a, rest) → ((a < 2 ^ w) × (refuse a ≡ None)) × (l ≡ bits a w ++ rest)
+field_found : (w : ℕ) (refuse : ℕ → Option Refused) (l : List Bool) (a : ℕ) (rest : List Bool) → (length l < w) ⊎ (w ≤ length l)
+    → field_read w refuse l ≡ Ok (a, rest) → ((a < 2 ^ w) × (refuse a ≡ None)) × (l ≡ bits a w ++ rest)
 field_found w refuse l a rest (inl lt) e =
     let f : Outcome ℕ = Err (OutOfBits, l) in
     let g : f ≡ Ok (a, rest) = rw (lt-ltb (length l) w lt) at e in
@@ -77,10 +89,15 @@ field_found w refuse l a rest (inr le) e =
     let v = num (take w l) in
     let g = rw (le-ltb (length l) w le) at e in
     let h = checked_ok (refuse v) v a l (drop w l) rest g in
-    let b = whole w l le in
-    ((subst (λ (n : ℕ). n < 2 ^ w) h.1 b.0, ap refuse (sym h.1) ∙ h.0), b.1 ∙ (ap (λ n. bits n w ++ drop w l) h.1 ∙ ap (λ r. bits a w ++ r) h.2))
+    let b = whole w l le in (
+      (subst (λ (n : ℕ). n < 2 ^ w) h.1 b.0, ap refuse (sym h.1) ∙ h.0),
+      b.1
+          ∙ (ap (λ n. bits n w ++ drop w l) h.1 ∙ ap (λ r. bits a w ++ r) h.2),
+    )
 
-field_refuses : (w : ℕ) (refuse : ℕ → Option Refused) (l : List Bool) (d : Refused) (at : List Bool) → (length l < w) ⊎ (w ≤ length l) → field_read w refuse l ≡ Err (d, at) → (at ≡ l) × (((length l < w) × (d ≡ OutOfBits)) ⊎ ((v : ℕ) × (rest : List Bool) × (v < 2 ^ w) × (l ≡ bits v w ++ rest) × (refuse v ≡ Some d)))
+field_refuses : (w : ℕ) (refuse : ℕ → Option Refused) (l : List Bool) (d : Refused) (at : List Bool) → (length l < w) ⊎ (w ≤ length l)
+    → field_read w refuse l ≡ Err (d, at) → (at ≡ l) × (((length l < w) × (d ≡ OutOfBits))
+    ⊎ ((v : ℕ) × (rest : List Bool) × (v < 2 ^ w) × (l ≡ bits v w ++ rest) × (refuse v ≡ Some d)))
 field_refuses w refuse l d at (inl lt) e =
     let g = rw (lt-ltb (length l) w lt) at e in
     let h = err_pair {A = ℕ} OutOfBits d l at g in
@@ -105,31 +122,35 @@ field_sound w refuse = record {
 }
 
 -- ---- single bits
-tested_ok : (o : Option Refused) (b a : Bool) (here rest r : List Bool) → tested o b here rest ≡ Ok (a, r) → (o ≡ None) × (b ≡ a) × (rest ≡ r)
+tested_ok : (o : Option Refused) (b a : Bool) (here rest r : List Bool) → tested o b here rest ≡ Ok (a, r)
+    → (o ≡ None) × (b ≡ a) × (rest ≡ r)
 tested_ok None b a here rest r e = let h = ok_pair b a rest r e in (refl, h.0, h.1)
 tested_ok (Some d) b a here rest r e = absurd cc
 
-tested_err : (o : Option Refused) (b : Bool) (here rest : List Bool) (d : Refused) (at : List Bool) → tested o b here rest ≡ Err (d, at) → (o ≡ Some d) × (at ≡ here)
+tested_err : (o : Option Refused) (b : Bool) (here rest : List Bool) (d : Refused) (at : List Bool) → tested o b here rest ≡ Err (d, at)
+    → (o ≡ Some d) × (at ≡ here)
 tested_err None b here rest d at e = absurd cc
 tested_err (Some x) b here rest d at e = let h = err_pair {A = Bool} x d here at e in (ap (λ (y : Refused). Some y) h.0, sym h.1)
 
-test_found : (refuse : Bool → Option Refused) (l : List Bool) (a : Bool) (rest : List Bool) → test_read refuse l ≡ Ok (a, rest) → (refuse a ≡ None) × (l ≡ a ∷ rest)
-test_found refuse [] a rest e = absurd cc
-test_found refuse (b ∷ l) a rest e =
+tested_bit_found : (refuse : Bool → Option Refused) (l : List Bool) (a : Bool) (rest : List Bool) → tested_bit_read refuse l ≡ Ok (a, rest)
+    → (refuse a ≡ None) × (l ≡ a ∷ rest)
+tested_bit_found refuse [] a rest e = absurd cc
+tested_bit_found refuse (b ∷ l) a rest e =
     let h = tested_ok (refuse b) b a (b ∷ l) l rest e in
     (ap refuse (sym h.1) ∙ h.0, ap (λ x. x ∷ l) h.1 ∙ ap (λ r. a ∷ r) h.2)
 
-test_refuses : (refuse : Bool → Option Refused) (l : List Bool) (e : Refused) (at : List Bool) → test_read refuse l ≡ Err (e, at)
+tested_bit_refuses : (refuse : Bool → Option Refused) (l : List Bool) (e : Refused) (at : List Bool)
+    → tested_bit_read refuse l ≡ Err (e, at)
     → (at ≡ l) × (((l ≡ []) × (e ≡ OutOfBits)) ⊎ ((b : Bool) × (rest : List Bool) × (l ≡ b ∷ rest) × (refuse b ≡ Some e)))
-test_refuses refuse [] e at h = let k = err_pair {A = Bool} OutOfBits e [] at h in (sym k.1, inl (refl, sym k.0))
-test_refuses refuse (b ∷ l) e at h = let k = tested_err (refuse b) b (b ∷ l) l e at h in (k.1, inr (b, l, refl, k.0))
+tested_bit_refuses refuse [] e at h = let k = err_pair {A = Bool} OutOfBits e [] at h in (sym k.1, inl (refl, sym k.0))
+tested_bit_refuses refuse (b ∷ l) e at h = let k = tested_err (refuse b) b (b ∷ l) l e at h in (k.1, inr (b, l, refl, k.0))
 
-pub test_sound : (refuse : Bool → Option Refused) → Sound (test refuse)
-unfolding test
-test_sound refuse = record {
-  found = test_found refuse;
+pub tested_bit_sound : (refuse : Bool → Option Refused) → Sound (tested_bit refuse)
+unfolding tested_bit
+tested_bit_sound refuse = record {
+  found = tested_bit_found refuse;
   only = λ a rest h. ap (λ o. tested o a (a ∷ rest) rest) h;
-  refused = test_refuses refuse;
+  refused = tested_bit_refuses refuse;
   refuses = λ l e at h. elim h.1 [
     | inl k ↦ rw (h.0, k.0, k.1) refl
     | inr k ↦ rw (h.0, k.2) (ap (λ o. tested o k.0 (k.0 ∷ k.1) k.1) k.3)
@@ -159,7 +180,8 @@ pair_sound {A} {B} c f s t = record {
       let a = s.found l x.0.0 x.0.1 x.1 in
       let b = (t x.0.0).found x.0.1 y.0.0 y.0.1 y.1 in
       let lawful : c.Lawful x.0.0 × (f x.0.0).Lawful y.0.0 = (a.0, b.0) in
-      let spelled : l ≡ c.spell x.0.0 ++ (f x.0.0).spell y.0.0 ++ y.0.1 = a.1 ∙ (ap (λ m. c.spell x.0.0 ++ m) b.1 ∙ sym (append_assoc (c.spell x.0.0) ((f x.0.0).spell y.0.0) y.0.1)) in (
+      let spelled : l ≡ c.spell x.0.0 ++ (f x.0.0).spell y.0.0 ++ y.0.1 =
+      a.1 ∙ (ap (λ m. c.spell x.0.0 ++ m) b.1 ∙ sym (append_assoc (c.spell x.0.0) ((f x.0.0).spell y.0.0) y.0.1)) in (
         subst (λ (q : A × B). c.Lawful q.0 × (f q.0).Lawful q.1) h.0 lawful,
         spelled ∙ (ap (λ (q : A × B). c.spell q.0 ++ (f q.0).spell q.1 ++ y.0.1) h.0 ∙ ap (λ r. c.spell p.0 ++ (f p.0).spell p.1 ++ r) h.1),
       );
@@ -171,8 +193,14 @@ pair_sound {A} {B} c f s t = record {
       elim (bind_err (c.read l) (λ x. ((f x.0).read x.1 >>= λ y. Ok ((x.0, y.0), y.1))) (e, at) h) [
         | inl k ↦ inl (s.refused l e at k)
         | inr x ↦ inr (
-            let a = s.found l x.0.0 x.0.1 x.1 in
-            (x.0.0, x.0.1, a.0, a.1, (t x.0.0).refused x.0.1 e at (bind_later ((f x.0.0).read x.0.1) (λ y. ((x.0.0, y.0), y.1)) (e, at) x.2)))
+            let a = s.found l x.0.0 x.0.1 x.1 in (
+              x.0.0,
+              x.0.1,
+              a.0,
+              a.1,
+              (t x.0.0).refused x.0.1 e at
+                  (bind_later ((f x.0.0).read x.0.1) (λ y. ((x.0.0, y.0), y.1)) (e, at) x.2),
+            ))
       ];
   refuses = λ l e at h. elim h [
     | inl k ↦ rw (s.refuses l e at k) refl
@@ -180,7 +208,8 @@ pair_sound {A} {B} c f s t = record {
   ];
 }
 
-pub shaped_sound : {A B : Type 0} (to : A → B) (from : B → A) (c : Codec A) → ((a : A) → from (to a) ≡ a) → ((b : B) → to (from b) ≡ b) → Sound c → Sound (shaped to from c)
+pub shaped_sound : {A B : Type 0} (to : A → B) (from : B → A) (c : Codec A) → ((a : A) → from (to a) ≡ a) → ((b : B) → to (from b) ≡ b)
+    → Sound c → Sound (shaped to from c)
 unfolding shaped
 shaped_sound to from c back again s = record {
   found = λ l b rest e.
@@ -194,7 +223,8 @@ shaped_sound to from c back again s = record {
   refuses = λ l e at h. rw (s.refuses l e at h) refl;
 }
 
-pub fitted_sound : {A B : Type 0} (to : A → B) (from : B → A) (Fits : B → Type 0) (c : Codec A) → ((a : A) → c.Lawful a → Fits (to a) × (from (to a) ≡ a)) → ((b : B) → Fits b → to (from b) ≡ b)
+pub fitted_sound : {A B : Type 0} (to : A → B) (from : B → A) (Fits : B → Type 0) (c : Codec A)
+    → ((a : A) → c.Lawful a → Fits (to a) × (from (to a) ≡ a)) → ((b : B) → Fits b → to (from b) ≡ b)
     → Sound c → Sound (fitted to from Fits c)
 unfolding fitted
 fitted_sound {A} {B} to from Fits c back again s = record {
@@ -213,7 +243,8 @@ fitted_sound {A} {B} to from Fits c back again s = record {
 some_same : {A : Type 0} {x y : A} → Some x ≡ Some y → x ≡ y
 some_same e = cc
 
-given_found : {A : Type 0} (there : Bool) (c : Codec A) → Sound c → (l : List Bool) (o : Option A) (rest : List Bool) → (given there c).read l ≡ Ok (o, rest)
+given_found : {A : Type 0} (there : Bool) (c : Codec A) → Sound c → (l : List Bool) (o : Option A) (rest : List Bool)
+    → (given there c).read l ≡ Ok (o, rest)
     → ((is_some o ≡ there) × ForSome o c.Lawful) × (l ≡ some_spell c.spell o ++ rest)
 unfolding given
 given_found {A} true c s l o rest e =
@@ -228,7 +259,8 @@ given_found {A} false c s l o rest e =
     let goal : Option A → Type 0 = λ v. ((is_some v ≡ false) × ForSome v c.Lawful) × (l ≡ some_spell c.spell v ++ rest) in
     subst goal h.0 ((refl, λ y k. absurd cc), h.1)
 
-given_only : {A : Type 0} (there : Bool) (c : Codec A) → Sound c → (o : Option A) (rest : List Bool) → is_some o ≡ there → ForSome o c.Lawful
+given_only : {A : Type 0} (there : Bool) (c : Codec A) → Sound c → (o : Option A) (rest : List Bool) → is_some o ≡ there
+    → ForSome o c.Lawful
     → (given there c).read (some_spell c.spell o ++ rest) ≡ Ok (o, rest)
 unfolding given
 given_only true c s None rest e h = absurd cc
@@ -236,7 +268,8 @@ given_only true c s (Some a) rest e h = rw (s.only a rest (h a refl)) refl
 given_only false c s None rest e h = refl
 given_only false c s (Some a) rest e h = absurd cc
 
-given_refused : {A : Type 0} (there : Bool) (c : Codec A) → Sound c → (l : List Bool) (e : Refused) (at : List Bool) → (given there c).read l ≡ Err (e, at) → (there ≡ true) × c.Refuses l e at
+given_refused : {A : Type 0} (there : Bool) (c : Codec A) → Sound c → (l : List Bool) (e : Refused) (at : List Bool)
+    → (given there c).read l ≡ Err (e, at) → (there ≡ true) × c.Refuses l e at
 unfolding given
 given_refused true c s l e at h = (refl, s.refused l e at (bind_later (c.read l) (λ x. (Some x.0, x.1)) (e, at) h))
 given_refused {A} false c s l e at h = let none : Option A = None in let g : ok_of (none, l) ≡ Err (e, at) = h in absurd cc
@@ -250,7 +283,8 @@ given_sound there c s = record {
   refuses = λ l e at h. rw (h.0, s.refuses l e at h.1) refl;
 }
 
-slot_found : {A : Type 0} (there : Bool) (other : A) (c : Codec A) → Sound c → (l : List Bool) (a : A) (rest : List Bool) → (slot there other c).read l ≡ Ok (a, rest)
+slot_found : {A : Type 0} (there : Bool) (other : A) (c : Codec A) → Sound c → (l : List Bool) (a : A) (rest : List Bool)
+    → (slot there other c).read l ≡ Ok (a, rest)
     → SlotLawful there other c.Lawful a × (l ≡ slot_spell there c.spell a ++ rest)
 unfolding slot
 slot_found true other c s l a rest e = s.found l a rest e
@@ -262,7 +296,8 @@ unfolding slot
 slot_only true other c s a rest h = s.only a rest h
 slot_only false other c s a rest h = ap (λ x. ok_of (x, rest)) (sym h)
 
-slot_refused : {A : Type 0} (there : Bool) (other : A) (c : Codec A) → Sound c → (l : List Bool) (e : Refused) (at : List Bool) → (slot there other c).read l ≡ Err (e, at) → (there ≡ true) × c.Refuses l e at
+slot_refused : {A : Type 0} (there : Bool) (other : A) (c : Codec A) → Sound c → (l : List Bool) (e : Refused) (at : List Bool)
+    → (slot there other c).read l ≡ Err (e, at) → (there ≡ true) × c.Refuses l e at
 unfolding slot
 slot_refused true other c s l e at h = (refl, s.refused l e at h)
 slot_refused false other c s l e at h = let g : ok_of (other, l) ≡ Err (e, at) = h in absurd cc
@@ -276,9 +311,12 @@ slot_sound there other c s = record {
   refuses = λ l e at h. rw (h.0, s.refuses l e at h.1) refl;
 }
 
-cons_only : {A : Type 0} (c : Codec A) (d : Codec (List A)) → Sound c → Sound d → (xs : List A) (rest : List Bool) → ConsLawful c.Lawful d.Lawful xs → (c.read (cons_spell c.spell d.spell xs ++ rest) >>= λ x. (d.read x.1 >>= λ y. Ok (x.0 ∷ y.0, y.1))) ≡ Ok (xs, rest)
+cons_only : {A : Type 0} (c : Codec A) (d : Codec (List A)) → Sound c → Sound d → (xs : List A) (rest : List Bool)
+    → ConsLawful c.Lawful d.Lawful xs → (c.read (cons_spell c.spell d.spell xs ++ rest) >>= λ x. (d.read x.1 >>= λ y. Ok (x.0 ∷ y.0, y.1)))
+    ≡ Ok (xs, rest)
 cons_only c d s t [] rest h = absurd h
-cons_only c d s t (x ∷ xs) rest h = rw (append_assoc (c.spell x) (d.spell xs) rest, s.only x (d.spell xs ++ rest) h.0, t.only xs rest h.1) refl
+cons_only c d s t (x ∷ xs) rest h =
+    rw (append_assoc (c.spell x) (d.spell xs) rest, s.only x (d.spell xs ++ rest) h.0, t.only xs rest h.1) refl
 
 pub cons_sound : {A : Type 0} (c : Codec A) (d : Codec (List A)) → Sound c → Sound d → Sound (cons c d)
 unfolding cons
@@ -289,7 +327,8 @@ cons_sound {A} c d s t = record {
       let h = ok_pair (x.0.0 ∷ y.0.0) xs y.0.1 rest y.2 in
       let a = s.found l x.0.0 x.0.1 x.1 in
       let b = t.found x.0.1 y.0.0 y.0.1 y.1 in
-      let spelled : l ≡ c.spell x.0.0 ++ d.spell y.0.0 ++ y.0.1 = a.1 ∙ (ap (λ m. c.spell x.0.0 ++ m) b.1 ∙ sym (append_assoc (c.spell x.0.0) (d.spell y.0.0) y.0.1)) in
+      let spelled : l ≡ c.spell x.0.0 ++ d.spell y.0.0 ++ y.0.1 =
+      a.1 ∙ (ap (λ m. c.spell x.0.0 ++ m) b.1 ∙ sym (append_assoc (c.spell x.0.0) (d.spell y.0.0) y.0.1)) in
       let goal : List A → Type 0 = λ v. ConsLawful c.Lawful d.Lawful v × (l ≡ cons_spell c.spell d.spell v ++ rest) in
       subst goal h.0 ((a.0, b.0), spelled ∙ ap (λ r. c.spell x.0.0 ++ d.spell y.0.0 ++ r) h.1);
   only = cons_only c d s t;
@@ -312,15 +351,18 @@ each_sound zero i c s = absent_sound []
 each_sound (suc n) i c s = cons_sound (c i) (each n (suc i) c) (s i) (each_sound n (suc i) c s)
 
 -- ---- what a reader of sound rows ensures
-pub gives_found : {A : Type 0} (c : Codec A) → Sound c → (r : Result A Refused) (old new : List Bool) → Gives r new (c.read old) → IfOk r (λ a. c.Lawful a × (old ≡ c.spell a ++ new))
+pub gives_found : {A : Type 0} (c : Codec A) → Sound c → (r : Result A Refused) (old new : List Bool) → Gives r new (c.read old)
+    → IfOk r (λ a. c.Lawful a × (old ≡ c.spell a ++ new))
 gives_found c s (Ok a) old new h = s.found old a new h
 gives_found c s (Err e) old new h = tt
 
-pub gives_refused : {A : Type 0} (c : Codec A) → Sound c → (r : Result A Refused) (old new : List Bool) → Gives r new (c.read old) → IfErr r (λ e. c.Refuses old e new)
+pub gives_refused : {A : Type 0} (c : Codec A) → Sound c → (r : Result A Refused) (old new : List Bool) → Gives r new (c.read old)
+    → IfErr r (λ e. c.Refuses old e new)
 gives_refused c s (Ok a) old new h = tt
 gives_refused c s (Err e) old new h = s.refused old e new h
 
-pub gives_only : {A : Type 0} (c : Codec A) → Sound c → (r : Result A Refused) (old new : List Bool) → Gives r new (c.read old) → (a : A) (rest : List Bool) → c.Lawful a → old ≡ c.spell a ++ rest → (r ≡ Ok a) × (new ≡ rest)
+pub gives_only : {A : Type 0} (c : Codec A) → Sound c → (r : Result A Refused) (old new : List Bool) → Gives r new (c.read old)
+    → (a : A) (rest : List Bool) → c.Lawful a → old ≡ c.spell a ++ rest → (r ≡ Ok a) × (new ≡ rest)
 gives_only {A} c s (Ok b) old new h a rest k e =
     let g : ok_of (b, new) ≡ ok_of (a, rest) = sym h ∙ (ap c.read e ∙ s.only a rest k) in
     let p = ok_pair b a new rest g in
@@ -331,11 +373,13 @@ gives_only {A} c s (Err d) old new h a rest k e =
     absurd cc
 
 -- one list of bits stands for at most one value
-pub one_value : {A : Type 0} (c : Codec A) → Sound c → (a b : A) (x y : List Bool) → c.Lawful a → c.Lawful b → c.spell a ++ x ≡ c.spell b ++ y → (a ≡ b) × (x ≡ y)
+pub one_value : {A : Type 0} (c : Codec A) → Sound c → (a b : A) (x y : List Bool) → c.Lawful a → c.Lawful b
+    → c.spell a ++ x ≡ c.spell b ++ y → (a ≡ b) × (x ≡ y)
 one_value c s a b x y h k e = ok_pair a b x y (sym (s.only a x h) ∙ (ap c.read e ∙ s.only b y k))
 
 -- what would be refused is refused
-pub gives_refuses : {A : Type 0} (c : Codec A) → Sound c → (r : Result A Refused) (old new : List Bool) → Gives r new (c.read old) → (e : Refused) (at : List Bool) → c.Refuses old e at → (r ≡ Err e) × (new ≡ at)
+pub gives_refuses : {A : Type 0} (c : Codec A) → Sound c → (r : Result A Refused) (old new : List Bool) → Gives r new (c.read old)
+    → (e : Refused) (at : List Bool) → c.Refuses old e at → (r ≡ Err e) × (new ≡ at)
 gives_refuses {A} c s (Ok b) old new h e at k =
     let g : ok_of (b, new) ≡ err_of (e, at) = sym h ∙ s.refuses old e at k in
     absurd cc
@@ -346,7 +390,8 @@ gives_refuses {A} c s (Err d) old new h e at k =
     (ap err p.0, p.1)
 
 -- ---- free bits
-free_found : (n : ℕ) (l a rest : List Bool) → (length l < n) ⊎ (n ≤ length l) → free_read n l ≡ Ok (a, rest) → (length a ≡ n) × (l ≡ a ++ rest)
+free_found : (n : ℕ) (l a rest : List Bool) → (length l < n) ⊎ (n ≤ length l) → free_read n l ≡ Ok (a, rest)
+    → (length a ≡ n) × (l ≡ a ++ rest)
 free_found n l a rest (inl lt) e =
     let f : Outcome (List Bool) = Err (OutOfBits, l) in
     let g : f ≡ Ok (a, rest) = rw (lt-ltb (length l) n lt) at e in
@@ -356,7 +401,8 @@ free_found n l a rest (inr le) e =
     let h = ok_pair (take n l) a (drop n l) rest g in
     (sym (ap length h.0) ∙ length-take-le n l le, sym (take-append-drop n l) ∙ (ap (λ x. x ++ drop n l) h.0 ∙ ap (λ x. a ++ x) h.1))
 
-free_refuses : (n : ℕ) (l : List Bool) (d : Refused) (at : List Bool) → (length l < n) ⊎ (n ≤ length l) → free_read n l ≡ Err (d, at) → (at ≡ l) × (length l < n) × (d ≡ OutOfBits)
+free_refuses : (n : ℕ) (l : List Bool) (d : Refused) (at : List Bool) → (length l < n) ⊎ (n ≤ length l) → free_read n l ≡ Err (d, at)
+    → (at ≡ l) × (length l < n) × (d ≡ OutOfBits)
 free_refuses n l d at (inl lt) e =
     let g = rw (lt-ltb (length l) n lt) at e in
     let h = err_pair {A = List Bool} OutOfBits d l at g in
@@ -377,11 +423,14 @@ free_sound n = record {
 }
 
 -- what a reader ensures that answers a part
-pub part_found : {X Y : Type 0} (part : X → Y) (c : Codec X) → Sound c → (r : Result Y Refused) (old new : List Bool) → GivesPart part r new (c.read old) → IfOk r (λ y. (x : X) × (part x ≡ y) × c.Lawful x × (old ≡ c.spell x ++ new))
+pub part_found : {X Y : Type 0} (part : X → Y) (c : Codec X) → Sound c → (r : Result Y Refused) (old new : List Bool)
+    → GivesPart part r new (c.read old) → IfOk r (λ y. (x : X) × (part x ≡ y) × c.Lawful x × (old ≡ c.spell x ++ new))
 part_found part c s (Ok y) old new h = let f = s.found old h.0 new h.2 in (h.0, h.1, f.0, f.1)
 part_found part c s (Err e) old new h = tt
 
-pub part_only : {X Y : Type 0} (part : X → Y) (c : Codec X) → Sound c → (r : Result Y Refused) (old new : List Bool) → GivesPart part r new (c.read old) → (x : X) (rest : List Bool) → c.Lawful x → old ≡ c.spell x ++ rest → (r ≡ Ok (part x)) × (new ≡ rest)
+pub part_only : {X Y : Type 0} (part : X → Y) (c : Codec X) → Sound c → (r : Result Y Refused) (old new : List Bool)
+    → GivesPart part r new (c.read old) → (x : X) (rest : List Bool) → c.Lawful x → old ≡ c.spell x ++ rest
+    → (r ≡ Ok (part x)) × (new ≡ rest)
 part_only {X} {Y} part c s (Ok y) old new h x rest k e =
     let g : ok_of (h.0, new) ≡ ok_of (x, rest) = sym h.2 ∙ (ap c.read e ∙ s.only x rest k) in
     let p = ok_pair h.0 x new rest g in
@@ -392,9 +441,12 @@ part_only {X} part c s (Err d) old new h x rest k e =
     absurd cc
 
 -- ---- rows that depend on those before them
-then_only : {A : Type 0} (c : Codec A) (f : A → Codec (List A)) → Sound c → ((a : A) → Sound (f a)) → (xs : List A) (rest : List Bool) → ThenLawful c.Lawful (λ x. (f x).Lawful) xs → (c.read (then_spell c.spell (λ x. (f x).spell) xs ++ rest) >>= λ x. ((f x.0).read x.1 >>= λ y. Ok (x.0 ∷ y.0, y.1))) ≡ Ok (xs, rest)
+then_only : {A : Type 0} (c : Codec A) (f : A → Codec (List A)) → Sound c → ((a : A) → Sound (f a)) → (xs : List A) (rest : List Bool)
+    → ThenLawful c.Lawful (λ x. (f x).Lawful) xs → (c.read (then_spell c.spell (λ x. (f x).spell) xs ++ rest) >>=
+    λ x. ((f x.0).read x.1 >>= λ y. Ok (x.0 ∷ y.0, y.1))) ≡ Ok (xs, rest)
 then_only c f s t [] rest h = absurd h
-then_only c f s t (x ∷ xs) rest h = rw (append_assoc (c.spell x) ((f x).spell xs) rest, s.only x ((f x).spell xs ++ rest) h.0, (t x).only xs rest h.1) refl
+then_only c f s t (x ∷ xs) rest h =
+    rw (append_assoc (c.spell x) ((f x).spell xs) rest, s.only x ((f x).spell xs ++ rest) h.0, (t x).only xs rest h.1) refl
 
 pub cons_then_sound : {A : Type 0} (c : Codec A) (f : A → Codec (List A)) → Sound c → ((a : A) → Sound (f a)) → Sound (cons_then c f)
 unfolding cons_then
@@ -405,7 +457,8 @@ cons_then_sound {A} c f s t = record {
       let h = ok_pair (x.0.0 ∷ y.0.0) xs y.0.1 rest y.2 in
       let a = s.found l x.0.0 x.0.1 x.1 in
       let b = (t x.0.0).found x.0.1 y.0.0 y.0.1 y.1 in
-      let spelled : l ≡ c.spell x.0.0 ++ (f x.0.0).spell y.0.0 ++ y.0.1 = a.1 ∙ (ap (λ m. c.spell x.0.0 ++ m) b.1 ∙ sym (append_assoc (c.spell x.0.0) ((f x.0.0).spell y.0.0) y.0.1)) in
+      let spelled : l ≡ c.spell x.0.0 ++ (f x.0.0).spell y.0.0 ++ y.0.1 =
+      a.1 ∙ (ap (λ m. c.spell x.0.0 ++ m) b.1 ∙ sym (append_assoc (c.spell x.0.0) ((f x.0.0).spell y.0.0) y.0.1)) in
       let goal : List A → Type 0 = λ v. ThenLawful c.Lawful (λ x. (f x).Lawful) v × (l ≡ then_spell c.spell (λ x. (f x).spell) v ++ rest) in
       subst goal h.0 ((a.0, b.0), spelled ∙ ap (λ r. c.spell x.0.0 ++ (f x.0.0).spell y.0.0 ++ r) h.1);
   only = then_only c f s t;
@@ -433,11 +486,13 @@ judged_ok : {A : Type 0} (o : Option Refused) (l : List Bool) (x y : A × List B
 judged_ok None l x y e = (refl, ok_same x y e)
 judged_ok (Some d) l x y e = absurd cc
 
-judged_err : {A : Type 0} (o : Option Refused) (l : List Bool) (x : A × List Bool) (d : Refused) (at : List Bool) → judged_as o l x ≡ Err (d, at) → (o ≡ Some d) × (at ≡ l)
+judged_err : {A : Type 0} (o : Option Refused) (l : List Bool) (x : A × List Bool) (d : Refused) (at : List Bool)
+    → judged_as o l x ≡ Err (d, at) → (o ≡ Some d) × (at ≡ l)
 judged_err None l x d at e = absurd cc
 judged_err {A} (Some r) l x d at e = let h = err_pair {A = A} r d l at e in (ap (λ (y : Refused). Some y) h.0, sym h.1)
 
-single_found : {A : Type 0} (w : ℕ) (refuse : A → Option Refused) (c : Codec A) → Sound c → (l : List Bool) (a : A) (rest : List Bool) → (length l < w) ⊎ (w ≤ length l) → single_read w refuse c.read l ≡ Ok (a, rest)
+single_found : {A : Type 0} (w : ℕ) (refuse : A → Option Refused) (c : Codec A) → Sound c → (l : List Bool) (a : A) (rest : List Bool)
+    → (length l < w) ⊎ (w ≤ length l) → single_read w refuse c.read l ≡ Ok (a, rest)
     → (c.Lawful a × (refuse a ≡ None)) × (l ≡ c.spell a ++ rest)
 single_found {A} w refuse c s l a rest (inl lt) e =
     let f : Outcome A = Err (OutOfBits, l) in
@@ -451,8 +506,10 @@ single_found {A} w refuse c s l a rest (inr le) e =
     let goal : A × List Bool → Type 0 = λ y. (c.Lawful y.0 × (refuse y.0 ≡ None)) × (l ≡ c.spell y.0 ++ y.1) in
     subst goal h.1 ((f.0, h.0), f.1)
 
-single_refused : {A : Type 0} (w : ℕ) (refuse : A → Option Refused) (c : Codec A) → IsOfWidth w c → (l : List Bool) (d : Refused) (at : List Bool) → (length l < w) ⊎ (w ≤ length l) → single_read w refuse c.read l ≡ Err (d, at)
-    → (at ≡ l) × (((length l < w) × (d ≡ OutOfBits)) ⊎ ((a : A) × (rest : List Bool) × c.Lawful a × (l ≡ c.spell a ++ rest) × (refuse a ≡ Some d)))
+single_refused : {A : Type 0} (w : ℕ) (refuse : A → Option Refused) (c : Codec A) → IsOfWidth w c
+    → (l : List Bool) (d : Refused) (at : List Bool) → (length l < w) ⊎ (w ≤ length l) → single_read w refuse c.read l ≡ Err (d, at)
+    → (at ≡ l) × (((length l < w) × (d ≡ OutOfBits)) ⊎ ((a : A) × (rest : List Bool) × c.Lawful a × (l ≡ c.spell a ++ rest)
+    × (refuse a ≡ Some d)))
 single_refused {A} w refuse c k l d at (inl lt) e =
     let g = rw (lt-ltb (length l) w lt) at e in
     let h = err_pair {A = A} OutOfBits d l at g in
@@ -464,7 +521,8 @@ single_refused {A} w refuse c k l d at (inr le) e =
     let f = k.sound.found l x.0.0 x.0.1 x.1 in
     (h.1, inr (x.0.0, x.0.1, f.0, f.1, h.0))
 
-single_at : {A : Type 0} (w : ℕ) (refuse : A → Option Refused) (c : Codec A) → IsOfWidth w c → (a : A) (rest : List Bool) → c.Lawful a → single_read w refuse c.read (c.spell a ++ rest) ≡ judged_as (refuse a) (c.spell a ++ rest) (a, rest)
+single_at : {A : Type 0} (w : ℕ) (refuse : A → Option Refused) (c : Codec A) → IsOfWidth w c → (a : A) (rest : List Bool) → c.Lawful a
+    → single_read w refuse c.read (c.spell a ++ rest) ≡ judged_as (refuse a) (c.spell a ++ rest) (a, rest)
 single_at w refuse c k a rest h =
     let n : length (c.spell a ++ rest) ≡ w + length rest = length-append (c.spell a) rest ∙ ap (λ m. m + length rest) (k.width a h) in
     rw (le-ltb (length (c.spell a ++ rest)) w (omega (arith, n)), k.sound.only a rest h) refl
@@ -481,11 +539,13 @@ single_sound w refuse c k = record {
   ];
 }
 
-pub part_refused : {X Y : Type 0} (part : X → Y) (c : Codec X) → Sound c → (r : Result Y Refused) (old new : List Bool) → GivesPart part r new (c.read old) → IfErr r (λ e. c.Refuses old e new)
+pub part_refused : {X Y : Type 0} (part : X → Y) (c : Codec X) → Sound c → (r : Result Y Refused) (old new : List Bool)
+    → GivesPart part r new (c.read old) → IfErr r (λ e. c.Refuses old e new)
 part_refused part c s (Ok y) old new h = tt
 part_refused part c s (Err e) old new h = s.refused old e new h
 
-pub part_refuses : {X Y : Type 0} (part : X → Y) (c : Codec X) → Sound c → (r : Result Y Refused) (old new : List Bool) → GivesPart part r new (c.read old) → (e : Refused) (at : List Bool) → c.Refuses old e at → (r ≡ Err e) × (new ≡ at)
+pub part_refuses : {X Y : Type 0} (part : X → Y) (c : Codec X) → Sound c → (r : Result Y Refused) (old new : List Bool)
+    → GivesPart part r new (c.read old) → (e : Refused) (at : List Bool) → c.Refuses old e at → (r ≡ Err e) × (new ≡ at)
 part_refuses {X} {Y} part c s (Ok y) old new h e at k =
     let g : ok_of (h.0, new) ≡ err_of (e, at) = sym h.2 ∙ s.refuses old e at k in
     absurd cc
@@ -496,12 +556,15 @@ part_refuses {X} {Y} part c s (Err d) old new h e at k =
     (ap err p.0, p.1)
 
 -- where a call answers the first of two parts
-pub first_found : {A B : Type 0} (c : Codec (A × B)) → Sound c → (r : Result A Refused) (old new : List Bool) → GivesPart (λ x. x.0) r new (c.read old) → IfOk r (λ a. (b : B) × c.Lawful (a, b) × (old ≡ c.spell (a, b) ++ new))
+pub first_found : {A B : Type 0} (c : Codec (A × B)) → Sound c → (r : Result A Refused) (old new : List Bool)
+    → GivesPart (λ x. x.0) r new (c.read old) → IfOk r (λ a. (b : B) × c.Lawful (a, b) × (old ≡ c.spell (a, b) ++ new))
 first_found {A} {B} c s (Ok a) old new h =
     let f = s.found old h.0 new h.2 in
     let goal : A → Type 0 = λ x. (b : B) × c.Lawful (x, b) × (old ≡ c.spell (x, b) ++ new) in
     subst goal h.1 (h.0.1, f.0, f.1)
 first_found c s (Err e) old new h = tt
 
-pub first_only : {A B : Type 0} (c : Codec (A × B)) → Sound c → (r : Result A Refused) (old new : List Bool) → GivesPart (λ x. x.0) r new (c.read old) → (a : A) (b : B) (rest : List Bool) → c.Lawful (a, b) → old ≡ c.spell (a, b) ++ rest → (r ≡ Ok a) × (new ≡ rest)
+pub first_only : {A B : Type 0} (c : Codec (A × B)) → Sound c → (r : Result A Refused) (old new : List Bool)
+    → GivesPart (λ x. x.0) r new (c.read old) → (a : A) (b : B) (rest : List Bool) → c.Lawful (a, b) → old ≡ c.spell (a, b) ++ rest
+    → (r ≡ Ok a) × (new ≡ rest)
 first_only c s r old new h a b rest k e = part_only (λ x. x.0) c s r old new h (a, b) rest k e

@@ -1,7 +1,8 @@
 -- Fields of a frame, one after the other without gaps (A/52 5.3), each a relation between a value and its bits.
 -- A codec is a field, or several: how a value is spelled, which values are lawful, which bits are refused and why, and
 -- what reading gives. That the four agree is `Sound`, proved once for each way of making codecs.
-use Rattle.std.specs.Prelude.{◌≡◌, ℕ, zero, suc, ◌<◌, ◌^◌, ◌⊎◌, ◌==◌, Bool, true, false, List, [], ◌∷◌, ◌++◌, length, take, drop, Option, Some, None, is_some, Result, Ok, Err, nat_lt, if◌then◌else◌}
+use Rattle.std.specs.Prelude.{◌≡◌, ℕ, zero, suc, ◌<◌, ◌^◌, ◌⊎◌, ◌==◌, Bool, true, false, List, [], ◌∷◌, ◌++◌, length, take, drop, Option}
+use Rattle.std.specs.Prelude.{Some, None, is_some, Result, Ok, Err, nat_lt, if◌then◌else◌}
 use Rattle.std.specs.Option.{ForSome}
 use Rattle.ac_bits.specs.Bits.{bits, num}
 use Rattle.ac_codec.specs.declared.refused.Refused.{Refused}
@@ -70,22 +71,22 @@ abbrev pub tested : Option Refused → Bool → List Bool → List Bool → Outc
 tested None b here rest = Ok (b, rest)
 tested (Some e) b here rest = Err (e, here)
 
-abbrev pub test_read : (Bool → Option Refused) → List Bool → Outcome Bool
-test_read refuse [] = Err (OutOfBits, [])
-test_read refuse (b ∷ l) = tested (refuse b) b (b ∷ l) l
+abbrev pub tested_bit_read : (Bool → Option Refused) → List Bool → Outcome Bool
+tested_bit_read refuse [] = Err (OutOfBits, [])
+tested_bit_read refuse (b ∷ l) = tested (refuse b) b (b ∷ l) l
 
 -- a bit, with the values that are refused
-unfoldable pub test : (Bool → Option Refused) → Codec Bool
-test refuse = record {
+unfoldable pub tested_bit : (Bool → Option Refused) → Codec Bool
+tested_bit refuse = record {
   spell = λ b. b ∷ [];
   Lawful = λ b. refuse b ≡ None;
   Refuses = λ l e at. (at ≡ l) × (((l ≡ []) × (e ≡ OutOfBits)) ⊎ ((b : Bool) × (rest : List Bool) × (l ≡ b ∷ rest) × (refuse b ≡ Some e)));
-  read = test_read refuse;
+  read = tested_bit_read refuse;
 }
 
 -- no value is refused
 abbrev pub flag : Codec Bool
-flag = test (λ b. None)
+flag = tested_bit (λ b. None)
 
 -- 1 is refused unless it may be
 abbrev pub one_where : Bool → Refused → Bool → Option Refused

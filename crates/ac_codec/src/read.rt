@@ -1,6 +1,8 @@
 //! Readers of single fields. After a refusal the source stands where the field began.
-ghost use Rattle.std.specs.Prelude.{◌≡◌, ℕ, ◌+◌, ◌<◌, ◌≤◌, ◌^◌, ◌++◌, ◌&&◌, List, length, drop, nat_lt, nat_le, Bool, true, false, IfOk, IfErr};
-ghost use Rattle.ac_codec.specs.Codec.{Codec, Gives, GivesPart, free, field, any, below, reused, flag, test, one_where, zero_where, given, slot, each};
+ghost use Rattle.std.specs.Prelude.{◌≡◌, ℕ, ◌+◌, ◌<◌, ◌≤◌, ◌^◌, ◌++◌, ◌&&◌, List, length, drop, nat_lt, nat_le, Bool, true, false, IfOk};
+ghost use Rattle.std.specs.Prelude.{IfErr};
+ghost use Rattle.ac_codec.specs.Codec.{Codec, Gives, GivesPart, free, field, any, below, reused, flag, tested_bit, one_where, zero_where};
+ghost use Rattle.ac_codec.specs.Codec.{given, slot, each};
 
 use crate::refused::{Refused, Row};
 use ac_bits::BitSource;
@@ -91,7 +93,7 @@ pub fn bit(source: &mut BitSource) -> Result<bool, Refused>
 
 /// A bit that has to be 0.
 fn clear(source: &mut BitSource, refused: Refused) -> Result<bool, Refused>
-    ensures { Gives result source.new ((test (one_where false refused)).read source.old) }
+    ensures { Gives result source.new ((tested_bit (one_where false refused)).read source.old) }
 {
     let before = source.copy();
     match source.take(1) {
@@ -106,7 +108,7 @@ fn clear(source: &mut BitSource, refused: Refused) -> Result<bool, Refused>
 
 /// A bit that has to be 1.
 fn set(source: &mut BitSource, refused: Refused) -> Result<bool, Refused>
-    ensures { Gives result source.new ((test (zero_where false refused)).read source.old) }
+    ensures { Gives result source.new ((tested_bit (zero_where false refused)).read source.old) }
 {
     let before = source.copy();
     match source.take(1) {
@@ -121,7 +123,7 @@ fn set(source: &mut BitSource, refused: Refused) -> Result<bool, Refused>
 
 /// A bit that is 1 only where `may` holds.
 pub fn bit_one_where(source: &mut BitSource, may: bool, refused: Refused) -> Result<bool, Refused>
-    ensures { Gives result source.new ((test (one_where may refused)).read source.old) }
+    ensures { Gives result source.new ((tested_bit (one_where may refused)).read source.old) }
 {
     if may {
         bit(source)
@@ -132,7 +134,7 @@ pub fn bit_one_where(source: &mut BitSource, may: bool, refused: Refused) -> Res
 
 /// A bit that is 0 only where `may` holds.
 pub fn bit_zero_where(source: &mut BitSource, may: bool, refused: Refused) -> Result<bool, Refused>
-    ensures { Gives result source.new ((test (zero_where may refused)).read source.old) }
+    ensures { Gives result source.new ((tested_bit (zero_where may refused)).read source.old) }
 {
     if may {
         bit(source)
@@ -229,7 +231,7 @@ pub fn optional_one_where(
     may: bool,
     refused: Refused,
 ) -> Result<Option<bool>, Refused>
-    ensures { Gives result source.new ((given there (test (one_where may refused))).read source.old) }
+    ensures { Gives result source.new ((given there (tested_bit (one_where may refused))).read source.old) }
 {
     if there {
         Ok(Some(bit_one_where(source, may, refused)?))
@@ -246,7 +248,7 @@ pub fn optional_zero_where(
     may: bool,
     refused: Refused,
 ) -> Result<Option<bool>, Refused>
-    ensures { Gives result source.new ((given there (test (zero_where may refused))).read source.old) }
+    ensures { Gives result source.new ((given there (tested_bit (zero_where may refused))).read source.old) }
 {
     if there {
         Ok(Some(bit_zero_where(source, may, refused)?))
@@ -263,7 +265,7 @@ pub fn slot_one_where(
     may: bool,
     refused: Refused,
 ) -> Result<bool, Refused>
-    ensures { Gives result source.new ((slot there false (test (one_where may refused))).read source.old) }
+    ensures { Gives result source.new ((slot there false (tested_bit (one_where may refused))).read source.old) }
 {
     if there {
         bit_one_where(source, may, refused)

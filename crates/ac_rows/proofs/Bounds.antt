@@ -1,5 +1,6 @@
 -- Lawful values are within the bounds that bins are made of.
-use Rattle.std.proofs.Common.{◌≡◌, ℕ, zero, suc, ◌+◌, ◌<◌, ◌≤◌, ◌^◌, Bool, true, false, List, [], ◌∷◌, ◌++◌, get_or, slice_index, Option, Some, None, nat_lt, refl, sym, subst, ◌∙◌, arith}
+use Rattle.std.proofs.Common.{◌≡◌, ℕ, zero, suc, ◌+◌, ◌<◌, ◌≤◌, ◌^◌, Bool, true, false, List, [], ◌∷◌, ◌++◌, get_or, slice_index, Option}
+use Rattle.std.proofs.Common.{Some, None, nat_lt, refl, sym, subst, ◌∙◌, arith}
 use Rattle.std.specs.Prelude.{is_some, if◌then◌else◌}
 use Rattle.std.specs.Option.{ForSome, option_or}
 use Rattle.std.proofs.Common.{inl, inr}
@@ -15,10 +16,12 @@ use Rattle.ac_rows.specs.declared.groups.Known.{Known}
 use Rattle.ac_rows.specs.Groups.{strategy_of}
 use Rattle.ac_rows.specs.Filled.{holds, number, entry, latest_in}
 use Rattle.ac_rows.specs.Known.{known_of, may_keep_channel, may_keep_shared}
-use Rattle.ac_rows.specs.BlockRows.{no_less, strategy, strategy_each, width_each, has_width, codes, block_rows, block_fields, coupling_now, HasSubbands, CodesFit, PairFits, AreLawfulAfter, AreLawful}
+use Rattle.ac_rows.specs.BlockRows.{no_less, strategy, strategy_each, width_each, has_width, codes, block_rows, block_fields, coupling_now}
+use Rattle.ac_rows.specs.BlockRows.{HasSubbands, CodesFit, PairFits, AreLawfulAfter, AreLawful}
 
 -- ---- entries of rows
-pub each_at : {A : Type 0} (n i : ℕ) (c : ℕ → Codec A) (xs : List A) → (each n i c).Lawful xs → (k : ℕ) (d : A) → k < n → (c (i + k)).Lawful (get_or xs k d)
+pub each_at : {A : Type 0} (n i : ℕ) (c : ℕ → Codec A) (xs : List A) → (each n i c).Lawful xs → (k : ℕ) (d : A) → k < n
+    → (c (i + k)).Lawful (get_or xs k d)
 unfolding each cons absent
 each_at zero i c xs h k d lt = absurd (omega arith)
 each_at (suc n) i c [] h k d lt = absurd h
@@ -29,7 +32,8 @@ each_at {A} (suc n) i c (x ∷ xs) h (suc k) d lt =
     let e : suc i + k ≡ i + suc k = omega arith in
     subst (λ (j : ℕ). (c j).Lawful (get_or xs k d)) e (each_at n (suc i) c xs h.1 k d (omega arith))
 
-pub each_here : {A : Type 0} (n : ℕ) (c : ℕ → Codec A) (xs : List A) → (each n 0 c).Lawful xs → (k : ℕ) (d : A) → k < n → (c k).Lawful (get_or xs k d)
+pub each_here : {A : Type 0} (n : ℕ) (c : ℕ → Codec A) (xs : List A) → (each n 0 c).Lawful xs → (k : ℕ) (d : A) → k < n
+    → (c k).Lawful (get_or xs k d)
 each_here n c xs h k d lt = subst (λ (j : ℕ). (c j).Lawful (get_or xs k d)) (omega arith) (each_at n 0 c xs h k d lt)
 
 some_below : (o : Option ℕ) (n : ℕ) → ForSome o (λ v. v ≤ n) → number o ≤ n
@@ -43,7 +47,8 @@ no_less_from a b e = elim (cases_lt (b + 2) a) [
   | inr le ↦ le
 ]
 
-pair_from : (there : Bool) (a b : Option ℕ) → (is_some a ≡ there) → ForSome a (λ v. v < 2 ^ 4) → (is_some b ≡ there) → ForSome b (λ v. (v < 2 ^ 4) × (no_less (number a) v ≡ None)) → PairFits a b
+pair_from : (there : Bool) (a b : Option ℕ) → (is_some a ≡ there) → ForSome a (λ v. v < 2 ^ 4) → (is_some b ≡ there)
+    → ForSome b (λ v. (v < 2 ^ 4) × (no_less (number a) v ≡ None)) → PairFits a b
 pair_from there None None e h f k = record { both = refl; begin = omega arith; end = omega arith; some = omega arith }
 pair_from there None (Some b) e h f k = let g : false ≡ true = e ∙ sym f in absurd cc
 pair_from there (Some a) None e h f k = let g : true ≡ false = e ∙ sym f in absurd cc
@@ -70,14 +75,17 @@ range_in true a b h p e =
 range_in false a b h p e = absurd cc
 
 -- of the coupling that holds
-pub range_fits : (full : ℕ) (stereo : Bool) (known : Known) (s : Strategy) → PairFits known.strategy.cplbegf known.strategy.cplendf → (strategy full stereo known.begun).Lawful s → HasSubbands (coupling_now known s).range
+pub range_fits : (full : ℕ) (stereo : Bool) (known : Known) (s : Strategy) → PairFits known.strategy.cplbegf known.strategy.cplendf
+    → (strategy full stereo known.begun).Lawful s → HasSubbands (coupling_now known s).range
 range_fits full stereo known s k h =
-    range_in (holds (option_or s.cplinu known.strategy.cplinu)) (option_or s.cplbegf known.strategy.cplbegf) (option_or s.cplendf known.strategy.cplendf)
+    range_in (holds (option_or s.cplinu known.strategy.cplinu)) (option_or s.cplbegf known.strategy.cplbegf)
+    (option_or s.cplendf known.strategy.cplendf)
     (over_pair s.cplbegf s.cplendf known.strategy.cplbegf known.strategy.cplendf (strategy_pair full stereo known.begun s h) k)
 
 -- ---- strategies and bandwidths
 codes_parts : (full : ℕ) (stereo low : Bool) (known : Known) (c : Coupling) (k : Codes) → (codes full stereo low known c).Lawful k
-    → ((is_some k.cplexpstr ≡ is_some c.range) × ForSome k.cplexpstr (λ v. (v < 2 ^ 2) × (reused (may_keep_shared known c) Cplexpstr v ≡ None)))
+    → ((is_some k.cplexpstr ≡ is_some c.range) × ForSome k.cplexpstr
+    (λ v. (v < 2 ^ 2) × (reused (may_keep_shared known c) Cplexpstr v ≡ None)))
     × (strategy_each full known c).Lawful k.chexpstr × (width_each full c k.chexpstr).Lawful k.chbwcod
 unfolding codes shaped pair given field
 codes_parts full stereo low known c k h = (h.1.1.0, h.1.1.1.0, h.1.1.1.1.1)
@@ -86,9 +94,12 @@ slot_below : (there may : Bool) (v : ℕ) → SlotLawful there 0 (λ x. (x < 2 ^
 slot_below true may v h = omega (arith, h.0)
 slot_below false may v h = omega (arith, h)
 
-kind_at : (full : ℕ) (known : Known) (c : Coupling) (xs : List ℕ) → (strategy_each full known c).Lawful xs → (i : ℕ) → i < 5 → slice_index xs i ≤ 3
+kind_at : (full : ℕ) (known : Known) (c : Coupling) (xs : List ℕ) → (strategy_each full known c).Lawful xs → (i : ℕ) → i < 5
+    → slice_index xs i ≤ 3
 unfolding strategy_each slot field
-kind_at full known c xs h i lt = slot_below (nat_lt i full) (may_keep_channel known c i) (slice_index xs i) (each_here 5 (λ i. slot (nat_lt i full) 0 (field 2 (reused (may_keep_channel known c i) Chexpstr))) xs h i 0 lt)
+kind_at full known c xs h i lt =
+    slot_below (nat_lt i full) (may_keep_channel known c i) (slice_index xs i)
+    (each_here 5 (λ i. slot (nat_lt i full) 0 (field 2 (reused (may_keep_channel known c i) Chexpstr))) xs h i 0 lt)
 
 below_from : (v : ℕ) → below 61 Chbwcod v ≡ None → v ≤ 60
 below_from v e = elim (cases_lt v 61) [
@@ -96,7 +107,8 @@ below_from v e = elim (cases_lt v 61) [
   | inr le ↦ let g = rw (le-ltb v 61 le) at e in absurd cc
 ]
 
-width_at : (full : ℕ) (c : Coupling) (chexpstr : List ℕ) (xs : List (Option ℕ)) → (width_each full c chexpstr).Lawful xs → (i : ℕ) → i < 5 → number (entry xs i) ≤ 60
+width_at : (full : ℕ) (c : Coupling) (chexpstr : List ℕ) (xs : List (Option ℕ)) → (width_each full c chexpstr).Lawful xs → (i : ℕ) → i < 5
+    → number (entry xs i) ≤ 60
 unfolding width_each given field
 width_at full c chexpstr xs h i lt =
     let r = each_here 5 (λ i. given (has_width full c chexpstr i) (field 6 (below 61 Chbwcod))) xs h i None lt in
@@ -106,7 +118,8 @@ used_from : (o : Option ℕ) (there : Bool) → is_some o ≡ there → 0 < numb
 used_from None there e h = absurd (omega arith)
 used_from (Some v) there e h = sym e
 
-pub codes_fit : (full : ℕ) (stereo low : Bool) (known : Known) (c : Coupling) (k : Codes) → (codes full stereo low known c).Lawful k → CodesFit c k
+pub codes_fit : (full : ℕ) (stereo low : Bool) (known : Known) (c : Coupling) (k : Codes) → (codes full stereo low known c).Lawful k
+    → CodesFit c k
 codes_fit full stereo low known c k h =
     let p = codes_parts full stereo low known c k h in
     record {
@@ -121,7 +134,8 @@ pub block_pair : (h : Head) (before : List Block) (b : Block) → (block_fields 
 unfolding block_fields block_rows shaped pair
 block_pair h before b k = strategy_pair _ _ _ (strategy_of b) k.1.0
 
-pub latest_pair : (h : Head) (before bs : List Block) → AreLawfulAfter h before bs → PairFits (latest_in (λ _ b. b.cplbegf) before bs) (latest_in (λ _ b. b.cplendf) before bs)
+pub latest_pair : (h : Head) (before bs : List Block) → AreLawfulAfter h before bs
+    → PairFits (latest_in (λ _ b. b.cplbegf) before bs) (latest_in (λ _ b. b.cplendf) before bs)
 unfolding latest_in
 latest_pair h before [] k = record { both = refl; begin = omega arith; end = omega arith; some = omega arith }
 latest_pair h before (b ∷ bs) k =

@@ -1,5 +1,6 @@
 -- The first refused group by a search, and by what it means.
-use Rattle.std.proofs.Common.{◌≡◌, ℕ, zero, suc, ◌+◌, ◌*◌, ◌<◌, ◌≤◌, ◌⊎◌, inl, inr, Bool, true, false, ◌&&◌, ◌||◌, length, Option, Some, None, refl, ap, sym, subst, arith}
+use Rattle.std.proofs.Common.{◌≡◌, ℕ, zero, suc, ◌+◌, ◌*◌, ◌<◌, ◌≤◌, ◌⊎◌, inl, inr, Bool, true, false, ◌&&◌, ◌||◌, length, Option, Some}
+use Rattle.std.proofs.Common.{None, refl, ap, sym, subst, arith}
 use Rattle.std.proofs.lemmas.Bool.{cases_lt, cases_eq, lt-ltb, ltb-true, leb-true, le-leb}
 use Rattle.ac_base.specs.declared.spans.Span.{Span}
 use Rattle.ac_expo.specs.Spelling.{Spelling}
@@ -66,18 +67,21 @@ bin_bad kind span s place k lt e =
     let z = and_true _ _ y.0 in
     ((leb-true _ _ z.0, lt), (ltb-true _ _ z.1, leb-true _ _ y.1), bad_outside span s (step_of kind span k) x.1)
 
-pub group_refused : (kind : ℕ) (span : Span) (s : Spelling) (place : ℕ) → is_bad_group kind span s place ≡ true → IsRefused kind span s place
+pub group_refused : (kind : ℕ) (span : Span) (s : Spelling) (place : ℕ) → is_bad_group kind span s place ≡ true
+    → IsRefused kind span s place
 group_refused kind span s place e = elim (or_true _ _ e) [
   | inl h ↦ inl (ltb-true _ _ h)
   | inr h ↦ let r = any_found span.end (is_bad_bin kind span s place) h in inr (r.0, bin_bad kind span s place r.0 r.1 r.2)
 ]
 
-pub refused_group : (kind : ℕ) (span : Span) (s : Spelling) (place : ℕ) → IsRefused kind span s place → is_bad_group kind span s place ≡ true
+pub refused_group : (kind : ℕ) (span : Span) (s : Spelling) (place : ℕ) → IsRefused kind span s place
+    → is_bad_group kind span s place ≡ true
 refused_group kind span s place (inl over) = or_left _ _ (lt-ltb _ _ over)
 refused_group kind span s place (inr bad) =
     let g = step_of kind span bad.0 in
     or_right _ _ (any_at span.end (is_bad_bin kind span s place) bad.0 bad.1.0.1
-    (and_both _ _ (and_both _ _ (and_both _ _ (le-leb span.start bad.0 bad.1.0.0) (lt-ltb (3 * place) g bad.1.1.0)) (le-leb g (3 * place + 3) bad.1.1.1)) (outside_bad span s g bad.1.2)))
+    (and_both _ _ (and_both _ _ (and_both _ _ (le-leb span.start bad.0 bad.1.0.0) (lt-ltb (3 * place) g bad.1.1.0))
+    (le-leb g (3 * place + 3) bad.1.1.1)) (outside_bad span s g bad.1.2)))
 
 -- what the search for the first one found, or didn't
 pub first_none : (n i : ℕ) (p : ℕ → Bool) → first_from n i p ≡ None → (k : ℕ) → i ≤ k → k < i + n → p k ≡ false
@@ -93,7 +97,8 @@ first_none (suc n) i p e k le lt = elim (true_or_false (p i)) [
       ]
 ]
 
-pub first_some : (n i : ℕ) (p : ℕ → Bool) (j : ℕ) → first_from n i p ≡ Some j → (i ≤ j) × (j < i + n) × (p j ≡ true) × ((k : ℕ) → i ≤ k → k < j → p k ≡ false)
+pub first_some : (n i : ℕ) (p : ℕ → Bool) (j : ℕ) → first_from n i p ≡ Some j
+    → (i ≤ j) × (j < i + n) × (p j ≡ true) × ((k : ℕ) → i ≤ k → k < j → p k ≡ false)
 unfolding first_from
 first_some zero i p j e = absurd cc
 first_some (suc n) i p j e = elim (true_or_false (p i)) [
@@ -122,9 +127,11 @@ not_both false e f = absurd cc
 pub none_refused : (kind : ℕ) (span : Span) (s : Spelling) → first_bad kind span s ≡ None → NoneRefused kind span s
 unfolding first_bad
 none_refused kind span s e place lt r =
-    not_both (is_bad_group kind span s place) (refused_group kind span s place r) (first_none (length s.groups) 0 (is_bad_group kind span s) e place (omega arith) (omega arith))
+    not_both (is_bad_group kind span s place) (refused_group kind span s place r)
+    (first_none (length s.groups) 0 (is_bad_group kind span s) e place (omega arith) (omega arith))
 
-pub is_first_refused : (kind : ℕ) (span : Span) (s : Spelling) (place : ℕ) → first_bad kind span s ≡ Some place → IsFirstRefused kind span s place
+pub is_first_refused : (kind : ℕ) (span : Span) (s : Spelling) (place : ℕ) → first_bad kind span s ≡ Some place
+    → IsFirstRefused kind span s place
 unfolding first_bad
 is_first_refused kind span s place e =
     let r = first_some (length s.groups) 0 (is_bad_group kind span s) place e in
@@ -141,7 +148,8 @@ when_none_by kind span s h (Some j) e = let r = is_first_refused kind span s j e
 pub when_none : (kind : ℕ) (span : Span) (s : Spelling) → NoneRefused kind span s → first_bad kind span s ≡ None
 when_none kind span s h = when_none_by kind span s h (first_bad kind span s) refl
 
-when_first_by : (kind : ℕ) (span : Span) (s : Spelling) (place : ℕ) → IsFirstRefused kind span s place → (o : Option ℕ) → first_bad kind span s ≡ o → o ≡ Some place
+when_first_by : (kind : ℕ) (span : Span) (s : Spelling) (place : ℕ) → IsFirstRefused kind span s place → (o : Option ℕ)
+    → first_bad kind span s ≡ o → o ≡ Some place
 when_first_by kind span s place h None e = absurd (none_refused kind span s e place h.within h.refused)
 when_first_by kind span s place h (Some j) e =
     let r = is_first_refused kind span s j e in

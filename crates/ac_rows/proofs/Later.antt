@@ -15,7 +15,8 @@ or_assoc : {A : Type 0} (o p q : Option A) → option_or (option_or o p) q ≡ o
 or_assoc None p q = refl
 or_assoc (Some x) p q = refl
 
-pub latest_more : {A : Type 0} (f : List Block → Block → Option A) (before bs : List Block) (b : Block) → latest_in f before (bs ++ b ∷ []) ≡ option_or (f (before ++ bs) b) (latest_in f before bs)
+pub latest_more : {A : Type 0} (f : List Block → Block → Option A) (before bs : List Block) (b : Block)
+    → latest_in f before (bs ++ b ∷ []) ≡ option_or (f (before ++ bs) b) (latest_in f before bs)
 unfolding latest_in
 latest_more f before [] b = sym (or_none (f (before ++ []) b) ∙ ap (λ l. f l b) (append-nil before))
 latest_more f before (c ∷ bs) b =

@@ -1,5 +1,6 @@
 -- The exponents of a channel as one field are sound.
-use Rattle.std.proofs.Common.{◌≡◌, ℕ, zero, suc, ◌+◌, ◌*◌, ◌<◌, ◌≤◌, ◌^◌, Bool, List, [], ◌∷◌, ◌++◌, length, take, drop, Ok, Err, refl, ap, sym, ◌∙◌, arith, length-append, length-drop}
+use Rattle.std.proofs.Common.{◌≡◌, ℕ, zero, suc, ◌+◌, ◌*◌, ◌<◌, ◌≤◌, ◌^◌, Bool, List, [], ◌∷◌, ◌++◌, length, take, drop, Ok, Err, refl, ap}
+use Rattle.std.proofs.Common.{sym, ◌∙◌, arith, length-append, length-drop}
 use Rattle.std.proofs.lemmas.Bool.{le-ltb, lt-ltb}
 use Rattle.std.proofs.lemmas.List.Elements.{All-nil, All-cons}
 use Rattle.ac_codec.specs.declared.refused.Refused.{Refused}
@@ -40,9 +41,11 @@ groups_row_sound : (n : ℕ) → Sound (groups_row n)
 unfolding groups_row
 groups_row_sound n =
     shaped_sound spelling_to spelling_from (pair (field 4 any) (λ _. each n 0 (λ _. field 7 any))) (λ _. refl) (λ _. refl)
-    (pair_sound (field 4 any) (λ _. each n 0 (λ _. field 7 any)) (field_sound 4 any) (λ _. each_sound n 0 (λ _. field 7 any) (λ _. field_sound 7 any)))
+    (pair_sound (field 4 any) (λ _. each n 0 (λ _. field 7 any)) (field_sound 4 any)
+    (λ _. each_sound n 0 (λ _. field 7 any) (λ _. field_sound 7 any)))
 
-groups_length : (n first : ℕ) (gs : List ℕ) → (each n 0 (λ _. field 7 any)).Lawful gs → length ((field 4 any).spell first ++ (each n 0 (λ _. field 7 any)).spell gs) ≡ 4 + 7 * n
+groups_length : (n first : ℕ) (gs : List ℕ) → (each n 0 (λ _. field 7 any)).Lawful gs
+    → length ((field 4 any).spell first ++ (each n 0 (λ _. field 7 any)).spell gs) ≡ 4 + 7 * n
 unfolding field
 groups_length n first gs h =
     let e = length-append (bits first 4) ((each n 0 (λ _. field 7 any)).spell gs) in
@@ -64,7 +67,9 @@ groups_row_is n = record { sound = groups_row_sound n; width = groups_row_width 
 
 pub spelled_row_sound : (kind : ℕ) (span : Span) (channel : ℕ) → Sound (spelled_row kind span channel)
 unfolding spelled_row
-spelled_row_sound kind span channel = single_sound (4 + 7 * groups_of kind span) (λ s. bad_exponent channel (first_bad kind span s)) (groups_row (groups_of kind span)) (groups_row_is (groups_of kind span))
+spelled_row_sound kind span channel =
+    single_sound (4 + 7 * groups_of kind span) (λ s. bad_exponent channel (first_bad kind span s)) (groups_row (groups_of kind span))
+    (groups_row_is (groups_of kind span))
 
 -- ---- what a reader of it cites
 row_found : (n : ℕ) (l rest : List Bool) (s : Spelling) → (groups_row n).read l ≡ Ok (s, rest) → (groups_row n).Lawful s
@@ -83,11 +88,13 @@ unfolding field
 first_lawful v h = h.0
 
 -- lawful values in plain words
-pub groups_row_lawful : (n : ℕ) (s : Spelling) → (groups_row n).Lawful s → (s.first < 2 ^ 4) × (length s.groups ≡ n) × All (λ g. g < 2 ^ 7) s.groups
+pub groups_row_lawful : (n : ℕ) (s : Spelling) → (groups_row n).Lawful s
+    → (s.first < 2 ^ 4) × (length s.groups ≡ n) × All (λ g. g < 2 ^ 7) s.groups
 unfolding groups_row pair shaped
 groups_row_lawful n s h = let r = sevens_lawful n 0 s.groups h.1 in (first_lawful s.first h.0, r.0, r.1)
 
-pub read_lawful : (n : ℕ) (l rest : List Bool) (s : Spelling) → (groups_row n).read l ≡ Ok (s, rest) → (s.first < 2 ^ 4) × (length s.groups ≡ n) × All (λ g. g < 2 ^ 7) s.groups
+pub read_lawful : (n : ℕ) (l rest : List Bool) (s : Spelling) → (groups_row n).read l ≡ Ok (s, rest)
+    → (s.first < 2 ^ 4) × (length s.groups ≡ n) × All (λ g. g < 2 ^ 7) s.groups
 read_lawful n l rest s e = groups_row_lawful n s (row_found n l rest s e)
 
 pub never_short : (n : ℕ) (l : List Bool) (e : Refused) (at : List Bool) → 4 + 7 * n ≤ length l → (groups_row n).read l ≡ Err (e, at) → ⊥
@@ -97,19 +104,25 @@ never_short n l e at h k =
     let g : f ≡ Ok r.0 = sym k ∙ r.1 in
     absurd cc
 
-pub spelled_out : (kind : ℕ) (span : Span) (channel : ℕ) (l : List Bool) → length l < 4 + 7 * groups_of kind span → (spelled_row kind span channel).read l ≡ Err (OutOfBits, l)
+pub spelled_out : (kind : ℕ) (span : Span) (channel : ℕ) (l : List Bool) → length l < 4 + 7 * groups_of kind span
+    → (spelled_row kind span channel).read l ≡ Err (OutOfBits, l)
 unfolding spelled_row single
 spelled_out kind span channel l h = rw (lt-ltb (length l) (4 + 7 * groups_of kind span) h) refl
 
-spelled_at : (kind : ℕ) (span : Span) (channel : ℕ) (l new : List Bool) (s : Spelling) → 4 + 7 * groups_of kind span ≤ length l → (groups_row (groups_of kind span)).read l ≡ Ok (s, new)
+spelled_at : (kind : ℕ) (span : Span) (channel : ℕ) (l new : List Bool) (s : Spelling) → 4 + 7 * groups_of kind span ≤ length l
+    → (groups_row (groups_of kind span)).read l ≡ Ok (s, new)
     → (spelled_row kind span channel).read l ≡ judged_as (bad_exponent channel (first_bad kind span s)) l (s, new)
 unfolding spelled_row single
 spelled_at kind span channel l new s h e = rw (le-ltb (length l) (4 + 7 * groups_of kind span) h, e) refl
 
-pub spelled_ok : (kind : ℕ) (span : Span) (channel : ℕ) (l new : List Bool) (s : Spelling) → 4 + 7 * groups_of kind span ≤ length l → (groups_row (groups_of kind span)).read l ≡ Ok (s, new) → NoneRefused kind span s
+pub spelled_ok : (kind : ℕ) (span : Span) (channel : ℕ) (l new : List Bool) (s : Spelling) → 4 + 7 * groups_of kind span ≤ length l
+    → (groups_row (groups_of kind span)).read l ≡ Ok (s, new) → NoneRefused kind span s
     → (spelled_row kind span channel).read l ≡ Ok (s, new)
-spelled_ok kind span channel l new s h e n = spelled_at kind span channel l new s h e ∙ ap (λ o. judged_as (bad_exponent channel o) l (s, new)) (when_none kind span s n)
+spelled_ok kind span channel l new s h e n =
+    spelled_at kind span channel l new s h e ∙ ap (λ o. judged_as (bad_exponent channel o) l (s, new)) (when_none kind span s n)
 
-pub spelled_bad : (kind : ℕ) (span : Span) (channel : ℕ) (l new : List Bool) (s : Spelling) (place : ℕ) → 4 + 7 * groups_of kind span ≤ length l → (groups_row (groups_of kind span)).read l ≡ Ok (s, new) → IsFirstRefused kind span s place
+pub spelled_bad : (kind : ℕ) (span : Span) (channel : ℕ) (l new : List Bool) (s : Spelling) (place : ℕ)
+    → 4 + 7 * groups_of kind span ≤ length l → (groups_row (groups_of kind span)).read l ≡ Ok (s, new) → IsFirstRefused kind span s place
     → (spelled_row kind span channel).read l ≡ Err (BadExponent channel place, l)
-spelled_bad kind span channel l new s place h e n = spelled_at kind span channel l new s h e ∙ ap (λ o. judged_as (bad_exponent channel o) l (s, new)) (when_first kind span s place n)
+spelled_bad kind span channel l new s place h e n =
+    spelled_at kind span channel l new s h e ∙ ap (λ o. judged_as (bad_exponent channel o) l (s, new)) (when_first kind span s place n)

@@ -1,5 +1,6 @@
 -- Loops that write two rows that alternate.
-use Rattle.std.proofs.Common.{◌≡◌, ℕ, zero, suc, ◌+◌, ◌<◌, ◌≤◌, Bool, Option, List, [], ◌∷◌, ◌++◌, length, take, get_or, refl, ap, ◌∙◌, arith}
+use Rattle.std.proofs.Common.{◌≡◌, ℕ, zero, suc, ◌+◌, ◌<◌, ◌≤◌, Bool, Option, List, [], ◌∷◌, ◌++◌, length, take, get_or, refl, ap, ◌∙◌}
+use Rattle.std.proofs.Common.{arith}
 use Rattle.ac_codec.specs.Codec.{given, field, pair, fitted}
 use Rattle.ac_codec.specs.Lists.{spelled_each}
 use Rattle.ac_codec.proofs.Spelling.{spelled_each-more, next_fits}
@@ -23,26 +24,31 @@ take-zipped (suc n) [] ys = refl
 take-zipped (suc n) (x ∷ xs) [] = refl
 take-zipped (suc n) (x ∷ xs) (y ∷ ys) = ap (λ l. (x, y) ∷ l) (take-zipped n xs ys)
 
-pub get-zipped : {A B : Type 0} (i : ℕ) (xs : List A) (ys : List B) (d : A) (e : B) → i < length xs → i < length ys → get_or (zipped xs ys) i (d, e) ≡ (get_or xs i d, get_or ys i e)
+pub get-zipped : {A B : Type 0} (i : ℕ) (xs : List A) (ys : List B) (d : A) (e : B) → i < length xs → i < length ys
+    → get_or (zipped xs ys) i (d, e) ≡ (get_or xs i d, get_or ys i e)
 get-zipped i [] ys d e h k = absurd (omega arith)
 get-zipped i (x ∷ xs) [] d e h k = absurd (omega arith)
 get-zipped zero (x ∷ xs) (y ∷ ys) d e h k = refl
 get-zipped (suc i) (x ∷ xs) (y ∷ ys) d e h k = get-zipped i xs ys d e (omega arith) (omega arith)
 
 -- one more of both
-pub zipped-more : {A B : Type 0} (f : A × B → List Bool) (xs : List A) (ys : List B) (i : ℕ) (d : A) (e : B) → i < length xs → length xs ≡ length ys
+pub zipped-more : {A B : Type 0} (f : A × B → List Bool) (xs : List A) (ys : List B) (i : ℕ) (d : A) (e : B) → i < length xs
+    → length xs ≡ length ys
     → spelled_each f (take (i + 1) (zipped xs ys)) ≡ spelled_each f (take i (zipped xs ys)) ++ f (get_or xs i d, get_or ys i e)
 zipped-more f xs ys i d e h k =
     let n = same-zipped xs ys k in
-    spelled_each-more f (zipped xs ys) i (d, e) (omega (arith, n)) ∙ ap (λ p. spelled_each f (take i (zipped xs ys)) ++ f p) (get-zipped i xs ys d e h (omega (arith, k)))
+    spelled_each-more f (zipped xs ys) i (d, e) (omega (arith, n))
+    ∙ ap (λ p. spelled_each f (take i (zipped xs ys)) ++ f p) (get-zipped i xs ys d e h (omega (arith, k)))
 
 -- for which there is room
-pub zipped_fits : {A B : Type 0} (f : A × B → List Bool) (xs : List A) (ys : List B) (i : ℕ) (d : A) (e : B) → i < length xs → length xs ≡ length ys
+pub zipped_fits : {A B : Type 0} (f : A × B → List Bool) (xs : List A) (ys : List B) (i : ℕ) (d : A) (e : B) → i < length xs
+    → length xs ≡ length ys
     → length (spelled_each f (take i (zipped xs ys))) + length (f (get_or xs i d, get_or ys i e)) ≤ length (spelled_each f (zipped xs ys))
 zipped_fits f xs ys i d e h k =
     let n = same-zipped xs ys k in
     let r = next_fits f (zipped xs ys) i (d, e) (omega (arith, n)) in
-    let s : length (f (get_or (zipped xs ys) i (d, e))) ≡ length (f (get_or xs i d, get_or ys i e)) = ap (λ p. length (f p)) (get-zipped i xs ys d e h (omega (arith, k))) in
+    let s : length (f (get_or (zipped xs ys) i (d, e))) ≡ length (f (get_or xs i d, get_or ys i e)) =
+    ap (λ p. length (f p)) (get-zipped i xs ys d e h (omega (arith, k))) in
     omega (arith, r, s)
 
 take_past : {X : Type 0} (n : ℕ) (xs : List X) → length xs ≤ n → take n xs ≡ xs
@@ -52,14 +58,17 @@ take_past (suc n) [] h = refl
 take_past (suc n) (x ∷ xs) h = ap (λ l. x ∷ l) (take_past n xs (omega arith))
 
 -- all of them
-pub zipped_all : {A B : Type 0} (f : A × B → List Bool) (xs : List A) (ys : List B) (i : ℕ) → length xs ≤ i → spelled_each f (take i (zipped xs ys)) ≡ spelled_each f (zipped xs ys)
+pub zipped_all : {A B : Type 0} (f : A × B → List Bool) (xs : List A) (ys : List B) (i : ℕ) → length xs ≤ i
+    → spelled_each f (take i (zipped xs ys)) ≡ spelled_each f (zipped xs ys)
 zipped_all f xs ys i h = ap (spelled_each f) (take_past i (zipped xs ys) (omega (arith, length-zipped xs ys)))
 
-pub offsets_bits : (full : ℕ) (xs ys : List (Option ℕ)) → length xs ≡ 5 → (offset_each full).spell (xs, ys) ≡ spelled_each offset_bits (zipped xs ys)
+pub offsets_bits : (full : ℕ) (xs ys : List (Option ℕ)) → length xs ≡ 5
+    → (offset_each full).spell (xs, ys) ≡ spelled_each offset_bits (zipped xs ys)
 unfolding offset_each alternating fitted pair given field
 offsets_bits full xs ys h = each_bits 5 0 _ offset_bits (zipped xs ys) (λ k x. refl) (omega (arith, h, length-zipped xs ys))
 
-pub coordinates_bits : (bands : ℕ) (xs ys : List (Option ℕ)) → length xs ≡ 18 → (coordinate_each bands).spell (xs, ys) ≡ spelled_each coordinate_bits (zipped xs ys)
+pub coordinates_bits : (bands : ℕ) (xs ys : List (Option ℕ)) → length xs ≡ 18
+    → (coordinate_each bands).spell (xs, ys) ≡ spelled_each coordinate_bits (zipped xs ys)
 unfolding coordinate_each alternating fitted pair given field
 coordinates_bits bands xs ys h = each_bits 18 0 _ coordinate_bits (zipped xs ys) (λ k x. refl) (omega (arith, h, length-zipped xs ys))
 

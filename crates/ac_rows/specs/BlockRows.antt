@@ -2,14 +2,17 @@
 -- acmod and lfeon of the head, from the fields before, from the coupling that holds in the block, and from nothing else; what
 -- earlier blocks gave is asked for only by fields that are refused where there is nothing to reuse.
 use Rattle.std.specs.Option.{ForSome}
-use Rattle.std.specs.Prelude.{◌≡◌, ◌<◌, ◌≤◌, ℕ, zero, suc, ◌+◌, ◌*◌, ◌&&◌, ◌||◌, not, Bool, true, false, nat_lt, nat_le, is_some, if◌then◌else◌, List, [], ◌∷◌, ◌++◌, length, Option, Some, None, slice_index}
+use Rattle.std.specs.Prelude.{◌≡◌, ◌<◌, ◌≤◌, ℕ, zero, suc, ◌+◌, ◌*◌, ◌&&◌, ◌||◌, not, Bool, true, false, nat_lt, nat_le, is_some}
+use Rattle.std.specs.Prelude.{if◌then◌else◌, List, [], ◌∷◌, ◌++◌, length, Option, Some, None, slice_index}
 use Rattle.ac_base.specs.declared.spans.Span.{Span}
 use Rattle.ac_base.specs.Shape.{full_of, is_stereo, subbands, rematrix_bands, full_span, next_span, low_span, count_of}
 use Rattle.ac_expo.specs.Spelling.{Spelling}
 use Rattle.ac_codec.specs.declared.refused.Refused.{Refused}
 use Rattle.ac_codec.specs.declared.refused.Refused.TheVariants.{Reserved, ShortBlock, Dither, Delta, NoReuse}
-use Rattle.ac_codec.specs.declared.refused.Row.TheVariants.{Cplstre, Cplinu, Chincpl, Cplendf, Cplcoe, Rematstr, Cplexpstr, Chexpstr, Lfeexpstr, Chbwcod, Baie, Snroffste, Cplleake}
-use Rattle.ac_codec.specs.Codec.{Codec, field, any, below, reused, flag, test, one_where, zero_where, absent, given, slot, pair, shaped, fitted, each, cons_then, free}
+use Rattle.ac_codec.specs.declared.refused.Row.TheVariants.{Cplstre, Cplinu, Chincpl, Cplendf, Cplcoe, Rematstr, Cplexpstr, Chexpstr}
+use Rattle.ac_codec.specs.declared.refused.Row.TheVariants.{Lfeexpstr, Chbwcod, Baie, Snroffste, Cplleake}
+use Rattle.ac_codec.specs.Codec.{Codec, field, any, below, reused, flag, tested_bit, one_where, zero_where, absent, given, slot, pair}
+use Rattle.ac_codec.specs.Codec.{shaped, fitted, each, cons_then, free}
 use Rattle.ac_rows.specs.Blocks.{Block}
 use Rattle.ac_rows.specs.declared.head.Head.{Head}
 use Rattle.ac_rows.specs.declared.groups.Start.{Start}
@@ -31,7 +34,7 @@ use Rattle.ac_rows.specs.Spelled.{spelled_row}
 
 -- a bit for each full channel that has to be 0
 unfoldable pub clear_each : ℕ → Refused → Codec (List Bool)
-clear_each full r = each 5 0 (λ i. slot (nat_lt i full) false (test (one_where false r)))
+clear_each full r = each 5 0 (λ i. slot (nat_lt i full) false (tested_bit (one_where false r)))
 
 abbrev pub start_to : List Bool × (List Bool × (Bool × Option ℕ)) → Start
 start_to (a, (b, (c, d))) = record { blksw = a; dithflag = b; dynrnge = c; dynrng = d }
@@ -53,7 +56,7 @@ start full = shaped start_to start_from (
 unfoldable pub coupled_each : ℕ → ℕ → Bool → ℕ → Bool → Codec (List (Option Bool))
 coupled_each zero i sent full seen = absent []
 coupled_each (suc n) i sent full seen =
-    cons_then (given (sent && nat_lt i full) (test (zero_where (nat_lt (suc i) full || seen) (Reserved Chincpl))))
+    cons_then (given (sent && nat_lt i full) (tested_bit (zero_where (nat_lt (suc i) full || seen) (Reserved Chincpl))))
     (λ coupled. coupled_each n (suc i) sent full (seen || holds coupled))
 
 -- there is a subband: cplbegf is at most cplendf + 2
@@ -87,8 +90,8 @@ strategy_from x = (x.cplstre, (x.cplinu, (x.chincpl, (x.phsflginu, (x.cplbegf, (
 -- one channel can't be coupled
 unfoldable pub strategy : ℕ → Bool → Bool → Codec Strategy
 strategy full stereo begun = shaped strategy_to strategy_from (
-    pair (test (zero_where begun (NoReuse Cplstre))) (λ cplstre.  -- cplstre
-    pair (given cplstre (test (one_where (nat_lt 1 full) (Reserved Cplinu)))) (λ cplinu.  -- cplinu
+    pair (tested_bit (zero_where begun (NoReuse Cplstre))) (λ cplstre.  -- cplstre
+    pair (given cplstre (tested_bit (one_where (nat_lt 1 full) (Reserved Cplinu)))) (λ cplinu.  -- cplinu
     pair (coupled_each 5 0 (holds cplinu) full false) (λ _.  -- chincpl
     pair (given (holds cplinu && stereo) flag) (λ _.  -- phsflginu
     pair (given (holds cplinu) (field 4 any)) (λ cplbegf.  -- cplbegf
@@ -129,7 +132,7 @@ channel_from x = (x.cplcoe, (x.mstrcplco, (x.cplcoexp, x.cplcomant)))
 -- a channel's cplcoe, mstrcplco, and coordinates
 unfoldable pub channel_shared : Bool → Bool → ℕ → Codec ChannelShared
 channel_shared coupled may bands = shaped channel_to channel_from (
-    pair (given coupled (test (zero_where may (NoReuse Cplcoe)))) (λ cplcoe.  -- cplcoe
+    pair (given coupled (tested_bit (zero_where may (NoReuse Cplcoe)))) (λ cplcoe.  -- cplcoe
     pair (given (holds cplcoe) (field 2 any)) (λ _.  -- mstrcplco
     coordinate_each (if holds cplcoe then bands else 0))))  -- cplcoexp, cplcomant
 
@@ -154,7 +157,8 @@ coordinate_mants (x ∷ xs) = x.cplcomant ∷ coordinate_mants xs
 
 -- the same by four lists
 abbrev pub joined_channels : List (Option Bool) → List (Option ℕ) → List (List (Option ℕ)) → List (List (Option ℕ)) → List ChannelShared
-joined_channels (w ∷ ws) (x ∷ xs) (y ∷ ys) (z ∷ zs) = record { cplcoe = w; mstrcplco = x; cplcoexp = y; cplcomant = z } ∷ joined_channels ws xs ys zs
+joined_channels (w ∷ ws) (x ∷ xs) (y ∷ ys) (z ∷ zs) =
+    record { cplcoe = w; mstrcplco = x; cplcoexp = y; cplcomant = z } ∷ joined_channels ws xs ys zs
 joined_channels ws xs ys zs = []
 
 -- a phase flag for each band, where some channel's coordinates are sent
@@ -209,11 +213,11 @@ codes_from x = (x.rematstr, (x.rematflg, (x.cplexpstr, (x.chexpstr, (x.lfeexpstr
 
 unfoldable pub codes : ℕ → Bool → Bool → Known → Coupling → Codec Codes
 codes full stereo low known c = shaped codes_to codes_from (
-    pair (given stereo (test (zero_where known.begun (NoReuse Rematstr)))) (λ rematstr.  -- rematstr
+    pair (given stereo (tested_bit (zero_where known.begun (NoReuse Rematstr)))) (λ rematstr.  -- rematstr
     pair (rematrix_each (if holds rematstr then rematrix_bands c.range else 0)) (λ _.  -- rematflg
     pair (given (is_some c.range) (field 2 (reused (may_keep_shared known c) Cplexpstr))) (λ _.  -- cplexpstr
     pair (strategy_each full known c) (λ chexpstr.  -- chexpstr
-    pair (given low (test (zero_where known.low (NoReuse Lfeexpstr)))) (λ _.  -- lfeexpstr
+    pair (given low (tested_bit (zero_where known.low (NoReuse Lfeexpstr)))) (λ _.  -- lfeexpstr
     width_each full c chexpstr))))))  -- chbwcod
 
 -- ---- exponents (A/52 5.4.3.25 to 5.4.3.29)
@@ -254,7 +258,7 @@ ParameterFields = Bool × (Option ℕ × (Option ℕ × (Option ℕ × (Option �
 -- baie and what it sends
 unfoldable pub parameters : Bool → Codec ParameterFields
 parameters begun =
-    pair (test (zero_where begun (NoReuse Baie))) (λ baie.  -- baie
+    pair (tested_bit (zero_where begun (NoReuse Baie))) (λ baie.  -- baie
     pair (given baie (field 2 any)) (λ _.  -- sdcycod
     pair (given baie (field 2 any)) (λ _.  -- fdcycod
     pair (given baie (field 2 any)) (λ _.  -- sgaincod
@@ -267,7 +271,7 @@ OffsetFields = Bool × (Option ℕ × (Option ℕ × (Option ℕ × ((List (Opti
 -- snroffste and what it sends
 unfoldable pub offsets : ℕ → Bool → Known → Coupling → Codec OffsetFields
 offsets full low known c =
-    pair (test (zero_where (known.begun && (not (is_some c.range) || known.offset)) (NoReuse Snroffste))) (λ snroffste.  -- snroffste
+    pair (tested_bit (zero_where (known.begun && (not (is_some c.range) || known.offset)) (NoReuse Snroffste))) (λ snroffste.  -- snroffste
     pair (given snroffste (field 6 any)) (λ _.  -- csnroffst
     pair (given (snroffste && is_some c.range) (field 4 any)) (λ _.  -- cplfsnroffst
     pair (given (snroffste && is_some c.range) (field 3 any)) (λ _.  -- cplfgaincod
@@ -281,7 +285,7 @@ LeakFields = Option Bool × (Option ℕ × Option ℕ)
 -- cplleake and what it sends
 unfoldable pub leaks : Known → Coupling → Codec LeakFields
 leaks known c =
-    pair (given (is_some c.range) (test (zero_where known.leaks (NoReuse Cplleake)))) (λ cplleake.  -- cplleake
+    pair (given (is_some c.range) (tested_bit (zero_where known.leaks (NoReuse Cplleake)))) (λ cplleake.  -- cplleake
     pair (given (holds cplleake) (field 3 any)) (λ _.  -- cplfleak
     given (holds cplleake) (field 3 any)))  -- cplsleak
 
@@ -332,7 +336,7 @@ rest_from x = (x.deltbaie, (x.skiple, x.skipl))
 
 unfoldable pub rest : Codec Rest
 rest = shaped rest_to rest_from (
-    pair (test (one_where false Delta)) (λ _.  -- deltbaie
+    pair (tested_bit (one_where false Delta)) (λ _.  -- deltbaie
     pair flag (λ skiple.  -- skiple
     given skiple (field 9 any))))  -- skipl
 

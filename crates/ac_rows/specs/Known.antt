@@ -1,13 +1,15 @@
 -- What the rows of a block see of the blocks before it: the coupling strategy, and what there is to reuse. A field that
 -- asks for reuse is refused where there is nothing that fits (this project's own rule).
-use Rattle.std.specs.Prelude.{ℕ, Bool, true, false, ◌&&◌, ◌||◌, ◌==◌, nat_le, is_some, if◌then◌else◌, List, [], ◌∷◌, Option, Some, None, slice_index}
+use Rattle.std.specs.Prelude.{ℕ, Bool, true, false, ◌&&◌, ◌||◌, ◌==◌, nat_le, is_some, if◌then◌else◌, List, [], ◌∷◌, Option, Some, None}
+use Rattle.std.specs.Prelude.{slice_index}
 use Rattle.std.specs.List.{list_any}
 use Rattle.std.specs.Option.{option_or}
 use Rattle.ac_rows.specs.Blocks.{Block}
 use Rattle.ac_rows.specs.declared.groups.Coupling.{Coupling}
 use Rattle.ac_rows.specs.declared.groups.Known.{Known}
 use Rattle.ac_rows.specs.Groups.{strategy_of}
-use Rattle.ac_rows.specs.Filled.{holds, number, entry, listed, latest_in, latest, latest_strategy, coupling_of, coupling_in, over, channel_end}
+use Rattle.ac_rows.specs.Filled.{holds, number, entry, listed, latest_in, latest, latest_strategy, coupling_of, coupling_in, over}
+use Rattle.ac_rows.specs.Filled.{channel_end}
 
 -- ---- what a block behind these gives
 

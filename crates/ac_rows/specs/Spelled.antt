@@ -1,6 +1,7 @@
 -- The exponents of a channel as one field: the first exponent and its groups (A/52 5.4.3.25 to 5.4.3.29, 7.1.3). Which group
 -- is refused is this project's own.
-use Rattle.std.specs.Prelude.{ℕ, zero, suc, ◌+◌, ◌*◌, ◌++◌, Bool, ◌&&◌, ◌||◌, false, nat_lt, nat_le, if◌then◌else◌, List, length, Option, Some, None, slice_index}
+use Rattle.std.specs.Prelude.{ℕ, zero, suc, ◌+◌, ◌*◌, ◌++◌, Bool, ◌&&◌, ◌||◌, false, nat_lt, nat_le, if◌then◌else◌, List, length, Option}
+use Rattle.std.specs.Prelude.{Some, None, slice_index}
 use Rattle.ac_base.specs.declared.spans.Span.{Span}
 use Rattle.ac_base.specs.declared.spans.Lead.{Lead}
 use Rattle.ac_bits.specs.Bits.{bits}

@@ -64,7 +64,7 @@ fn range_of(s: &Strategy) -> Option<(u8, u8)>
 }
 
 /// The subbands of a coupling.
-fn subband_count(range: Option<(u8, u8)>) -> usize
+pub fn subband_count(range: Option<(u8, u8)>) -> usize
     ensures { result ≡ subbands range }
 {
     match range {
@@ -157,7 +157,7 @@ fn end_sent(c: &Coupling, b: &Block, i: usize) -> Option<usize>
 }
 
 /// The coupling strategy of a block.
-fn strategy_of(b: &Block) -> Strategy
+pub fn strategy_of(b: &Block) -> Strategy
     ensures { result ≡ strategy_of b.now }
 {
     Strategy {

@@ -1,45 +1,22 @@
-//! The fields of a frame up to its mantissas, in groups: each is one relation between values and bits, read and written
-//! (A/52 5.3, 5.4).
+//! The fields of a frame up to its mantissas (A/52 5.3, 5.4): their types, in groups, and what the rows of a block see of the
+//! blocks before it. Each group is one relation between values and bits; `ac_row_reading` reads it and `ac_row_writing` writes it.
 #![tactic(auto)]
 
-mod allocation;
-mod allocation_writing;
 mod block;
-mod block_reading;
-mod block_writing;
-mod channels;
-mod codes;
-mod codes_writing;
-mod exponent;
-mod exponents;
-mod exponents_writing;
-mod groups;
+pub mod channels;
+pub mod free_bits;
+pub mod groups;
 mod head;
-mod head_groups;
-mod head_reading;
-mod head_writing;
-mod joining;
-mod known;
-mod optional;
-mod reuse;
-mod shared;
-mod shared_writing;
-mod span;
-mod start;
-mod start_writing;
-mod strategy;
-mod strategy_writing;
+pub mod head_groups;
+pub mod joining;
+pub mod known;
+pub mod optional;
+pub mod reuse;
+pub mod span;
 
 pub use block::Block;
-pub use block_reading::read_block;
-pub use block_writing::write_block;
 pub use channels::{full_channels, stereo};
 pub use groups::{Coupling, Strategy};
 pub use head::Head;
-pub use head_reading::read_head;
-pub use head_writing::write_head;
 pub use known::{coupling_of, over};
 pub use optional::{both, holds, number};
-
-#[cfg(test)]
-mod tests;

@@ -1,5 +1,6 @@
 -- The rows of blocks as this encoder fills them have the widths of the side bits.
-use Rattle.std.proofs.Common.{◌≡◌, ℕ, zero, suc, ◌+◌, ◌*◌, ◌<◌, ◌≤◌, ◌&&◌, ◌||◌, Bool, true, false, List, [], ◌∷◌, length, take, nat_lt, Option, Some, None, refl, ap, ap₂, sym, subst, ◌∙◌, arith}
+use Rattle.std.proofs.Common.{◌≡◌, ℕ, zero, suc, ◌+◌, ◌*◌, ◌<◌, ◌≤◌, ◌&&◌, ◌||◌, Bool, true, false, List, [], ◌∷◌, length, take, nat_lt}
+use Rattle.std.proofs.Common.{Option, Some, None, refl, ap, ap₂, sym, subst, ◌∙◌, arith}
 use Rattle.std.specs.Prelude.{is_some, not, if◌then◌else◌}
 use Rattle.std.specs.List.{count_by}
 use Rattle.std.proofs.Common.{cond}
@@ -9,7 +10,7 @@ use Rattle.ac_base.specs.Shape.{full_of, is_stereo, subbands, rematrix_bands}
 use Rattle.ac_base.specs.SideBits.{when}
 use Rattle.ac_codec.specs.declared.refused.Refused.TheVariants.{NoReuse}
 use Rattle.ac_codec.specs.declared.refused.Row.TheVariants.{Cplstre, Rematstr, Baie, Snroffste, Cplleake}
-use Rattle.ac_codec.specs.Codec.{test, zero_where, given, pair, shaped}
+use Rattle.ac_codec.specs.Codec.{tested_bit, zero_where, given, pair, shaped}
 use Rattle.ac_rows.specs.Blocks.{Block}
 use Rattle.ac_rows.specs.declared.head.Head.{Head}
 use Rattle.ac_rows.specs.declared.groups.Strategy.{Strategy}
@@ -20,14 +21,16 @@ use Rattle.ac_rows.specs.declared.groups.Allocation.{Allocation}
 use Rattle.ac_rows.specs.Groups.{start_of, strategy_of, shared_of, codes_of, exponents_of, allocation_of, rest_of}
 use Rattle.ac_rows.specs.Filled.{holds, number, entry, listed, latest_in, channel_coupled, range_of, over, latest_strategy}
 use Rattle.ac_rows.specs.Known.{known_of, may_keep_coordinates, is_count}
-use Rattle.ac_rows.specs.BlockRows.{start, strategy, sent_subbands, shared, codes, exponents, allocation, offsets, parameters, leaks, rest, block_rows, block_fields, coupling_now, HasSubbands, PairFits, AreLawful}
+use Rattle.ac_rows.specs.BlockRows.{start, strategy, sent_subbands, shared, codes, exponents, allocation, offsets, parameters, leaks, rest}
+use Rattle.ac_rows.specs.BlockRows.{block_rows, block_fields, coupling_now, HasSubbands, PairFits, AreLawful}
 use Rattle.ac_rows.specs.Bits.{exponents_bits}
 use Rattle.ac_rows.proofs.Bounds.{range_fits, known_pair}
 use Rattle.ac_rows.proofs.BlockBits.{block_parts}
 use Rattle.ac_rows.proofs.ZippedLawful.{exponents_same}
 use Rattle.ac_syntax.specs.Sent.{exponent_rows, FirstIsSide, LaterIsSide}
 use Rattle.ac_syntax.proofs.Widths.{l7}
-use Rattle.ac_syntax.proofs.GroupWidths.{start_width, strategy_width, shared_first, shared_later, none_sent, codes_width, allocation_width, rest_width, forced, forced_bit}
+use Rattle.ac_syntax.proofs.GroupWidths.{start_width, strategy_width, shared_first, shared_later, none_sent, codes_width, allocation_width}
+use Rattle.ac_syntax.proofs.GroupWidths.{rest_width, forced, forced_bit}
 use Rattle.ac_syntax.proofs.SideSums.{first_numbers, later_numbers, first_sum, later_sum}
 
 full_most : (acmod : ℕ) → full_of acmod ≤ 5
@@ -43,15 +46,21 @@ full_most (suc (suc (suc (suc (suc (suc (suc (suc n)))))))) = omega arith
 
 -- the bits of a block, group by group
 block_width : (full : ℕ) (stereo low : Bool) (known : Known) (b : Block) → (block_rows full stereo low known).Lawful b
-    → length ((block_rows full stereo low known).spell b) ≡ length ((start full).spell (start_of b)) + length ((strategy full stereo known.begun).spell (strategy_of b))
-    + length ((shared known (coupling_now known (strategy_of b))).spell (shared_of b)) + length ((codes full stereo low known (coupling_now known (strategy_of b))).spell (codes_of b))
-    + length (exponents_bits (exponents_of b)) + length ((allocation full low known (coupling_now known (strategy_of b))).spell (allocation_of b)) + length (rest.spell (rest_of b))
+    → length ((block_rows full stereo low known).spell b) ≡ length ((start full).spell (start_of b))
+    + length ((strategy full stereo known.begun).spell (strategy_of b))
+    + length ((shared known (coupling_now known (strategy_of b))).spell (shared_of b))
+    + length ((codes full stereo low known (coupling_now known (strategy_of b))).spell (codes_of b))
+    + length (exponents_bits (exponents_of b)) + length ((allocation full low known (coupling_now known (strategy_of b))).spell
+    (allocation_of b)) + length (rest.spell (rest_of b))
 unfolding block_rows shaped pair
 block_width full stereo low known b l =
     let c = coupling_now known (strategy_of b) in
     let p = block_parts full stereo low known b l in
     let e = ap length (exponents_same full c (codes_of b) (exponents_of b) p.exponents) in
-    let t = l7 ((start full).spell (start_of b)) ((strategy full stereo known.begun).spell (strategy_of b)) ((shared known c).spell (shared_of b)) ((codes full stereo low known c).spell (codes_of b)) ((exponents full c (codes_of b)).spell (exponents_of b)) ((allocation full low known c).spell (allocation_of b)) (rest.spell (rest_of b)) in
+    let t =
+    l7 ((start full).spell (start_of b)) ((strategy full stereo known.begun).spell (strategy_of b)) ((shared known c).spell (shared_of b))
+    ((codes full stereo low known c).spell (codes_of b)) ((exponents full c (codes_of b)).spell (exponents_of b))
+    ((allocation full low known c).spell (allocation_of b)) (rest.spell (rest_of b)) in
     omega (arith, e, t)
 
 -- ---- the coupling that holds
@@ -86,7 +95,8 @@ none_counted : (n : ℕ) (xs : List (Option Bool)) → ((i : ℕ) → holds (ent
 unfolding one_of
 none_counted zero xs h = refl
 none_counted (suc n) [] h = refl
-none_counted (suc n) (x ∷ xs) h = sum_by-cons (λ y. cond (holds y) 1 0) x (take n xs) ∙ ap₂ (λ a b. a + b) (ap one_of (h 0)) (none_counted n xs (λ i. h (suc i)))
+none_counted (suc n) (x ∷ xs) h =
+    sum_by-cons (λ y. cond (holds y) 1 0) x (take n xs) ∙ ap₂ (λ a b. a + b) (ap one_of (h 0)) (none_counted n xs (λ i. h (suc i)))
 
 and_second : (a b : Bool) → b ≡ false → (a && b) ≡ false
 and_second true b e = e
@@ -107,13 +117,15 @@ first_coupling s couple e =
     let r = rw (or_none s.cplinu, or_none s.cplbegf, or_none s.cplendf) at e in
     (used_from (holds s.cplinu) (number s.cplbegf, number s.cplendf) couple r, ap subbands r)
 
-first_bands : (s : Strategy) (couple : Option (ℕ × ℕ)) → (coupling_now (known_of []) s).range ≡ couple → ((k : ℕ) → holds (entry s.cplbndstrc k) ≡ false) → (coupling_now (known_of []) s).bands ≡ subbands couple
+first_bands : (s : Strategy) (couple : Option (ℕ × ℕ)) → (coupling_now (known_of []) s).range ≡ couple
+    → ((k : ℕ) → holds (entry s.cplbndstrc k) ≡ false) → (coupling_now (known_of []) s).bands ≡ subbands couple
 unfolding known_of latest_in
 first_bands s couple e h =
     let m = over s (latest_strategy []) in
     let none : (i : ℕ) → holds (entry m.cplbndstrc i) ≡ false =
     none_holds 18 0 (λ k. option_or (entry s.cplbndstrc k) (entry (latest_strategy []).cplbndstrc k))
-    (λ k. holds_first (entry s.cplbndstrc k) (entry (latest_strategy []).cplbndstrc k) (h k) (no_entry 18 0 (λ j. latest_in (λ _ b. entry b.cplbndstrc j) [] []) (λ j. refl) k)) in
+    (λ k. holds_first (entry s.cplbndstrc k) (entry (latest_strategy []).cplbndstrc k) (h k)
+    (no_entry 18 0 (λ j. latest_in (λ _ b. entry b.cplbndstrc j) [] []) (λ j. refl) k)) in
     let c = none_counted (subbands (range_of m)) m.cplbndstrc none in
     let d : subbands (range_of m) ≡ subbands couple = ap subbands e in
     omega (arith, c, d)
@@ -131,31 +143,39 @@ unfolding known_of
 first_begun = (refl, refl)
 
 strategy_first : (full : ℕ) (stereo begun : Bool) (s : Strategy) → begun ≡ false → (strategy full stereo begun).Lawful s → s.cplstre ≡ true
-unfolding strategy shaped pair test
-strategy_first full stereo begun s e l = forced_bit (NoReuse Cplstre) s.cplstre (sym (ap (λ b. zero_where b (NoReuse Cplstre) s.cplstre) e) ∙ l.0)
+unfolding strategy shaped pair tested_bit
+strategy_first full stereo begun s e l =
+    forced_bit (NoReuse Cplstre) s.cplstre (sym (ap (λ b. zero_where b (NoReuse Cplstre) s.cplstre) e) ∙ l.0)
 
-codes_first : (full : ℕ) (stereo low : Bool) (known : Known) (c : Coupling) (k : Codes) → known.begun ≡ false → (codes full stereo low known c).Lawful k → holds k.rematstr ≡ stereo
-unfolding codes shaped pair given test
-codes_first full stereo low known c k e l = forced stereo (NoReuse Rematstr) k.rematstr l.0.0 (λ b g. sym (ap (λ m. zero_where m (NoReuse Rematstr) b) e) ∙ l.0.1 b g)
+codes_first : (full : ℕ) (stereo low : Bool) (known : Known) (c : Coupling) (k : Codes) → known.begun ≡ false
+    → (codes full stereo low known c).Lawful k → holds k.rematstr ≡ stereo
+unfolding codes shaped pair given tested_bit
+codes_first full stereo low known c k e l =
+    forced stereo (NoReuse Rematstr) k.rematstr l.0.0 (λ b g. sym (ap (λ m. zero_where m (NoReuse Rematstr) b) e) ∙ l.0.1 b g)
 
-allocation_first : (full : ℕ) (low : Bool) (known : Known) (c : Coupling) (x : Allocation) → known.begun ≡ false → known.leaks ≡ false → (allocation full low known c).Lawful x
+allocation_first : (full : ℕ) (low : Bool) (known : Known) (c : Coupling) (x : Allocation) → known.begun ≡ false → known.leaks ≡ false
+    → (allocation full low known c).Lawful x
     → (x.baie ≡ true) × (x.snroffste ≡ true) × (holds x.cplleake ≡ is_some c.range)
-unfolding allocation parameters offsets leaks shaped pair given test
+unfolding allocation parameters offsets leaks shaped pair given tested_bit
 allocation_first full low known c x e f l =
-    let may : (known.begun && (not (is_some c.range) || known.offset)) ≡ false = ap (λ b. b && (not (is_some c.range) || known.offset)) e in (
+    let may : (known.begun && (not (is_some c.range) || known.offset)) ≡ false =
+    ap (λ b. b && (not (is_some c.range) || known.offset)) e in (
       forced_bit (NoReuse Baie) x.baie (sym (ap (λ b. zero_where b (NoReuse Baie) x.baie) e) ∙ l.0.0),
       forced_bit (NoReuse Snroffste) x.snroffste (sym (ap (λ b. zero_where b (NoReuse Snroffste) x.snroffste) may) ∙ l.1.0.0),
-      forced (is_some c.range) (NoReuse Cplleake) x.cplleake l.1.1.0.0 (λ b g. sym (ap (λ m. zero_where m (NoReuse Cplleake) b) f) ∙ l.1.1.0.1 b g),
+      forced (is_some c.range) (NoReuse Cplleake) x.cplleake l.1.1.0.0
+          (λ b g. sym (ap (λ m. zero_where m (NoReuse Cplleake) b) f) ∙ l.1.1.0.1 b g),
     )
 
 whens : (t b : Bool) (w : ℕ) → t ≡ b → when t w ≡ when b w
 whens t b w e = ap (λ x. when x w) e
 
-first_block : (full : ℕ) (stereo low : Bool) (couple : Option (ℕ × ℕ)) (b : Block) → full ≤ 5 → (block_rows full stereo low (known_of [])).Lawful b
+first_block : (full : ℕ) (stereo low : Bool) (couple : Option (ℕ × ℕ)) (b : Block) → full ≤ 5
+    → (block_rows full stereo low (known_of [])).Lawful b
     → b.dynrnge ≡ false → b.skiple ≡ false → (coupling_now (known_of []) (strategy_of b)).range ≡ couple
     → ((i : ℕ) → i < 5 → channel_coupled (coupling_now (known_of []) (strategy_of b)) i ≡ (nat_lt i full && is_some couple))
     → ((k : ℕ) → holds (entry b.cplbndstrc k) ≡ false) → holds b.phsflginu ≡ false
-    → length ((block_rows full stereo low (known_of [])).spell b) ≡ first_numbers full stereo low (is_some couple) (subbands couple) (rematrix_bands couple) + exponent_rows b
+    → length ((block_rows full stereo low (known_of [])).spell b)
+    ≡ first_numbers full stereo low (is_some couple) (subbands couple) (rematrix_bands couple) + exponent_rows b
 unfolding first_numbers
 first_block full stereo low couple b h l dyn skip range coupled bands phases =
     let known = known_of [] in
@@ -166,7 +186,8 @@ first_block full stereo low couple b h l dyn skip range coupled bands phases =
     let u : is_some c.range ≡ used = ap is_some range in
     let k = first_coupling s couple range in
     let n = first_bands s couple range bands in
-    let few : c.bands ≤ 18 = omega (arith, n, subbands_most couple (subst HasSubbands range (range_fits full stereo known s none_pair p.strategy))) in
+    let few : c.bands ≤ 18 =
+    omega (arith, n, subbands_most couple (subst HasSubbands range (range_fits full stereo known s none_pair p.strategy))) in
     let f = allocation_first full low known c (allocation_of b) first_begun.0 first_begun.1 p.allocation in
     let r = codes_first full stereo low known c (codes_of b) first_begun.0 p.codes in
     let w = block_width full stereo low known b l in
@@ -199,17 +220,21 @@ no_flag : (o : Option Bool) → is_some o ≡ false → holds o ≡ false
 no_flag None e = refl
 no_flag (Some b) e = absurd cc
 
-kept_strategy : (full : ℕ) (stereo begun : Bool) (s : Strategy) → (strategy full stereo begun).Lawful s → s.cplstre ≡ false → holds s.cplinu ≡ false
+kept_strategy : (full : ℕ) (stereo begun : Bool) (s : Strategy) → (strategy full stereo begun).Lawful s → s.cplstre ≡ false
+    → holds s.cplinu ≡ false
 unfolding strategy shaped pair given
 kept_strategy full stereo begun s l e = no_flag s.cplinu (l.1.0.0 ∙ e)
 
-later_block : (h : Head) (full : ℕ) (stereo low : Bool) (couple : Option (ℕ × ℕ)) (earlier : List Block) (b : Block) → full ≤ 5 → AreLawful h earlier → (block_rows full stereo low (known_of earlier)).Lawful b
+later_block : (h : Head) (full : ℕ) (stereo low : Bool) (couple : Option (ℕ × ℕ)) (earlier : List Block) (b : Block) → full ≤ 5
+    → AreLawful h earlier → (block_rows full stereo low (known_of earlier)).Lawful b
     → b.dynrnge ≡ false → b.skiple ≡ false → (coupling_now (known_of earlier) (strategy_of b)).range ≡ couple
     → ((i : ℕ) → i < 5 → channel_coupled (coupling_now (known_of earlier) (strategy_of b)) i ≡ (nat_lt i full && is_some couple))
-    → b.cplstre ≡ false → ((i : ℕ) → holds (entry b.cplcoe i) ≡ false) → holds b.rematstr ≡ false → b.baie ≡ false → b.snroffste ≡ false → holds b.cplleake ≡ false
+    → b.cplstre ≡ false → ((i : ℕ) → holds (entry b.cplcoe i) ≡ false) → holds b.rematstr ≡ false → b.baie ≡ false → b.snroffste ≡ false
+    → holds b.cplleake ≡ false
     → length ((block_rows full stereo low (known_of earlier)).spell b) ≡ later_numbers full stereo low (is_some couple) + exponent_rows b
 unfolding later_numbers
-later_block h full stereo low couple earlier b few_channels frame l dyn skip range coupled kept sends remat parameters_kept offsets_kept leaks_kept =
+later_block h full stereo low couple earlier b few_channels frame l dyn skip range coupled kept sends remat parameters_kept offsets_kept
+    leaks_kept =
     let known = known_of earlier in
     let s = strategy_of b in
     let c = coupling_now known s in
@@ -228,9 +253,12 @@ later_block h full stereo low couple earlier b few_channels frame l dyn skip ran
     let d3 = whens (holds s.cplinu && stereo) false 1 (ap (λ t. t && stereo) off) in
     let d4 = whens (holds s.cplinu) false 4 off in
     let d5 : sent_subbands (holds s.cplinu) s.cplbegf s.cplendf ≡ 0 = ap (λ t. sent_subbands t s.cplbegf s.cplendf) off in
-    let e = shared_later full used known c (shared_of b) few_channels few coupled (none_sent b.cplcoe b.mstrcplco b.cplcoexp b.cplcomant sends) p.shared in
+    let e =
+    shared_later full used known c (shared_of b) few_channels few coupled (none_sent b.cplcoe b.mstrcplco b.cplcoexp b.cplcomant sends)
+    p.shared in
     let g = codes_width full stereo low used known c (codes_of b) few_channels u p.codes in
-    let g1 : (if holds b.rematstr then rematrix_bands c.range else 0) ≡ 0 = ap (λ (t : Bool). if t then rematrix_bands c.range else 0) remat in
+    let g1 : (if holds b.rematstr then rematrix_bands c.range else 0) ≡ 0 =
+    ap (λ (t : Bool). if t then rematrix_bands c.range else 0) remat in
     let m = allocation_width full low used known c x few_channels u p.allocation in
     let m1 = whens x.baie false 2 parameters_kept in
     let m2 = whens x.baie false 3 parameters_kept in
@@ -247,11 +275,13 @@ later_block h full stereo low couple earlier b few_channels frame l dyn skip ran
 pub first_is_side : FirstIsSide
 unfolding block_fields known_of
 first_is_side h couple b head l e =
-    first_block (full_of h.acmod) (is_stereo h.acmod) h.lfeon couple b (full_most h.acmod) l e.sent.dynrnge e.sent.skiple e.sent.range e.sent.coupled e.bands e.phases
+    first_block (full_of h.acmod) (is_stereo h.acmod) h.lfeon couple b (full_most h.acmod) l e.sent.dynrnge e.sent.skiple e.sent.range
+    e.sent.coupled e.bands e.phases
     ∙ ap (λ n. n + exponent_rows b) (first_sum h.acmod h.lfeon couple)
 
 pub later_is_side : LaterIsSide
 unfolding block_fields known_of
 later_is_side h couple earlier b head frame l e =
-    later_block h (full_of h.acmod) (is_stereo h.acmod) h.lfeon couple earlier b (full_most h.acmod) frame l e.sent.dynrnge e.sent.skiple e.sent.range e.sent.coupled e.cplstre e.cplcoe e.rematstr e.baie e.snroffste e.cplleake
+    later_block h (full_of h.acmod) (is_stereo h.acmod) h.lfeon couple earlier b (full_most h.acmod) frame l e.sent.dynrnge e.sent.skiple
+    e.sent.range e.sent.coupled e.cplstre e.cplcoe e.rematstr e.baie e.snroffste e.cplleake
     ∙ ap (λ n. n + exponent_rows b) (later_sum h.acmod h.lfeon couple)

@@ -8,33 +8,44 @@ use Rattle.ac_syntax.proofs.Widths.{eight_a_band}
 -- the rows of block 0, for channels that are counted and a test of two
 unfoldable pub first_rows : ℕ → Bool → Bool → Bool → ℕ → ℕ → List ℕ
 first_rows full stereo lfe coupled bands rematrix =
-    full * 1 ∷ full * 1 ∷ 1 ∷ 1 ∷ 1 ∷ when coupled (full * 1) ∷ when (coupled && stereo) 1 ∷ when coupled 4 ∷ when coupled 4 ∷ when coupled ((bands - 1) * 1)
-    ∷ when coupled (full * 1) ∷ when coupled (full * 2) ∷ when coupled (full * bands * 4) ∷ when coupled (full * bands * 4) ∷ when stereo 1 ∷ when stereo (rematrix * 1)
-    ∷ when coupled 2 ∷ full * 2 ∷ when lfe 1 ∷ 1 ∷ 2 ∷ 2 ∷ 2 ∷ 2 ∷ 3 ∷ 1 ∷ 6 ∷ when coupled 4 ∷ when coupled 3 ∷ full * 4 ∷ full * 3 ∷ when lfe 4 ∷ when lfe 3
+    full * 1 ∷ full * 1 ∷ 1 ∷ 1 ∷ 1 ∷ when coupled (full * 1) ∷ when (coupled && stereo) 1 ∷ when coupled 4 ∷ when coupled 4 ∷ when coupled
+    ((bands - 1) * 1)
+    ∷ when coupled (full * 1) ∷ when coupled (full * 2) ∷ when coupled (full * bands * 4) ∷ when coupled (full * bands * 4) ∷ when stereo
+    1 ∷ when stereo (rematrix * 1)
+    ∷ when coupled 2 ∷ full * 2 ∷ when lfe 1 ∷ 1 ∷ 2 ∷ 2 ∷ 2 ∷ 2 ∷ 3 ∷ 1 ∷ 6 ∷ when coupled 4 ∷ when coupled 3 ∷ full * 4 ∷ full * 3 ∷ when
+    lfe 4 ∷ when lfe 3
     ∷ when coupled 1 ∷ when coupled 3 ∷ when coupled 3 ∷ 1 ∷ 1 ∷ []
 
 unfoldable pub later_rows : ℕ → Bool → Bool → Bool → List ℕ
-later_rows full stereo lfe coupled = full * 1 ∷ full * 1 ∷ 1 ∷ 1 ∷ when coupled (full * 1) ∷ when stereo 1 ∷ when coupled 2 ∷ full * 2 ∷ when lfe 1 ∷ 1 ∷ 1 ∷ when coupled 1 ∷ 1 ∷ 1 ∷ []
+later_rows full stereo lfe coupled =
+    full * 1 ∷ full * 1 ∷ 1 ∷ 1 ∷ when coupled (full * 1) ∷ when stereo 1 ∷ when coupled 2 ∷ full * 2 ∷ when lfe 1 ∷ 1 ∷ 1 ∷ when coupled
+    1 ∷ 1 ∷ 1 ∷ []
 
-first_is : (acmod : ℕ) (lfe : Bool) (couple : Option (ℕ × ℕ)) → first_block_rows acmod lfe couple ≡ first_rows (full_of acmod) (is_stereo acmod) lfe (is_some couple) (subbands couple) (rematrix_bands couple)
+first_is : (acmod : ℕ) (lfe : Bool) (couple : Option (ℕ × ℕ))
+    → first_block_rows acmod lfe couple ≡ first_rows (full_of acmod) (is_stereo acmod) lfe (is_some couple) (subbands couple)
+    (rematrix_bands couple)
 unfolding first_rows
 first_is acmod lfe couple = refl
 
-later_is : (acmod : ℕ) (lfe : Bool) (couple : Option (ℕ × ℕ)) → later_block_rows acmod lfe couple ≡ later_rows (full_of acmod) (is_stereo acmod) lfe (is_some couple)
+later_is : (acmod : ℕ) (lfe : Bool) (couple : Option (ℕ × ℕ))
+    → later_block_rows acmod lfe couple ≡ later_rows (full_of acmod) (is_stereo acmod) lfe (is_some couple)
 unfolding later_rows
 later_is acmod lfe couple = refl
 
 unfoldable pub first_numbers : ℕ → Bool → Bool → Bool → ℕ → ℕ → ℕ
 first_numbers full stereo lfe used bands rematrix =
-    (full * 1 + full * 1 + 1) + (1 + 1 + when used (full * 1) + when (used && stereo) 1 + when used 4 + when used 4 + (bands - 1)) + when used (full * (3 + bands * 8))
+    (full * 1 + full * 1 + 1) + (1 + 1 + when used (full * 1) + when (used && stereo) 1 + when used 4 + when used 4 + (bands - 1))
+    + when used (full * (3 + bands * 8))
     + (when stereo 1 + (if stereo then rematrix else 0) + when used 2 + full * 2 + when lfe 1)
-    + ((1 + 2 + 2 + 2 + 2 + 3) + (1 + 6 + when used 4 + when used 3 + full * 7 + when lfe 4 + when lfe 3) + (when used 1 + when used 3 + when used 3)) + 2
+    + ((1 + 2 + 2 + 2 + 2 + 3) + (1 + 6 + when used 4 + when used 3 + full * 7 + when lfe 4 + when lfe 3)
+    + (when used 1 + when used 3 + when used 3)) + 2
 
 unfoldable pub later_numbers : ℕ → Bool → Bool → Bool → ℕ
 later_numbers full stereo lfe used =
     (full * 1 + full * 1 + 1) + 1 + when used (full * 1) + (when stereo 1 + when used 2 + full * 2 + when lfe 1) + (1 + 1 + when used 1) + 2
 
-first_same : (full : ℕ) (stereo lfe used : Bool) (bands rematrix : ℕ) → (used ≡ false → bands ≡ 0) → first_numbers full stereo lfe used bands rematrix ≡ sum (first_rows full stereo lfe used bands rematrix)
+first_same : (full : ℕ) (stereo lfe used : Bool) (bands rematrix : ℕ) → (used ≡ false → bands ≡ 0)
+    → first_numbers full stereo lfe used bands rematrix ≡ sum (first_rows full stereo lfe used bands rematrix)
 unfolding first_numbers first_rows
 first_same full true true true bands rematrix h = omega (arith, eight_a_band full bands)
 first_same full true false true bands rematrix h = omega (arith, eight_a_band full bands)
@@ -60,9 +71,13 @@ none_bands : (couple : Option (ℕ × ℕ)) → is_some couple ≡ false → sub
 none_bands None e = refl
 none_bands (Some p) e = absurd cc
 
-pub first_sum : (acmod : ℕ) (lfe : Bool) (couple : Option (ℕ × ℕ)) → first_numbers (full_of acmod) (is_stereo acmod) lfe (is_some couple) (subbands couple) (rematrix_bands couple) ≡ sum (first_block_rows acmod lfe couple)
+pub first_sum : (acmod : ℕ) (lfe : Bool) (couple : Option (ℕ × ℕ))
+    → first_numbers (full_of acmod) (is_stereo acmod) lfe (is_some couple) (subbands couple) (rematrix_bands couple)
+    ≡ sum (first_block_rows acmod lfe couple)
 first_sum acmod lfe couple =
-    first_same (full_of acmod) (is_stereo acmod) lfe (is_some couple) (subbands couple) (rematrix_bands couple) (none_bands couple) ∙ ap sum (sym (first_is acmod lfe couple))
+    first_same (full_of acmod) (is_stereo acmod) lfe (is_some couple) (subbands couple) (rematrix_bands couple) (none_bands couple)
+    ∙ ap sum (sym (first_is acmod lfe couple))
 
-pub later_sum : (acmod : ℕ) (lfe : Bool) (couple : Option (ℕ × ℕ)) → later_numbers (full_of acmod) (is_stereo acmod) lfe (is_some couple) ≡ sum (later_block_rows acmod lfe couple)
+pub later_sum : (acmod : ℕ) (lfe : Bool) (couple : Option (ℕ × ℕ))
+    → later_numbers (full_of acmod) (is_stereo acmod) lfe (is_some couple) ≡ sum (later_block_rows acmod lfe couple)
 later_sum acmod lfe couple = later_same (full_of acmod) (is_stereo acmod) lfe (is_some couple) ∙ ap sum (sym (later_is acmod lfe couple))

@@ -7,7 +7,8 @@ use Rattle.ac_rows.specs.Filled.{listed, over, latest_strategy, coupling_in, fil
 use Rattle.ac_syntax.specs.Filling.{filled_by}
 use Rattle.ac_syntax.specs.Latest.{latest_block}
 
-pub strategy_kept : (b : Block) (bs : List Block) → over (strategy_of b) (strategy_of (latest_block b bs)) ≡ over (strategy_of b) (latest_strategy bs)
+pub strategy_kept : (b : Block) (bs : List Block) → over (strategy_of b) (strategy_of (latest_block b bs))
+    ≡ over (strategy_of b) (latest_strategy bs)
 unfolding latest_block listed
 strategy_kept b bs = refl
 

@@ -1,5 +1,6 @@
 -- How many bits rows have.
-use Rattle.std.proofs.Common.{◌≡◌, ℕ, zero, suc, ◌+◌, ◌-◌, ◌*◌, ◌<◌, ◌≤◌, ◌&&◌, Bool, true, false, List, [], ◌∷◌, ◌++◌, length, nat_lt, nat_le, Option, Some, None, refl, ap, ap₂, sym, ◌∙◌, arith, length-append, inl, inr}
+use Rattle.std.proofs.Common.{◌≡◌, ℕ, zero, suc, ◌+◌, ◌-◌, ◌*◌, ◌<◌, ◌≤◌, ◌&&◌, Bool, true, false, List, [], ◌∷◌, ◌++◌, length, nat_lt}
+use Rattle.std.proofs.Common.{nat_le, Option, Some, None, refl, ap, ap₂, sym, ◌∙◌, arith, length-append, inl, inr}
 use Rattle.std.specs.Prelude.{is_some}
 use Rattle.std.proofs.Math.Nat.{suc-mul, mul-one, mul-add, mul_assoc}
 use Rattle.std.proofs.lemmas.Bool.{cases_lt, lt-ltb, le-ltb, le-leb}
@@ -29,7 +30,9 @@ unfoldable pub total : ℕ → ℕ → (ℕ → ℕ) → ℕ
 total zero i f = 0
 total (suc n) i f = f i + total n (suc i) f
 
-pub each_width : {A : Type 0} (n i : ℕ) (c : ℕ → Codec A) (width : ℕ → ℕ) (xs : List A) → ((k : ℕ) (x : A) → i ≤ k → k < i + n → (c k).Lawful x → length ((c k).spell x) ≡ width k) → (each n i c).Lawful xs → length ((each n i c).spell xs) ≡ total n i width
+pub each_width : {A : Type 0} (n i : ℕ) (c : ℕ → Codec A) (width : ℕ → ℕ) (xs : List A)
+    → ((k : ℕ) (x : A) → i ≤ k → k < i + n → (c k).Lawful x → length ((c k).spell x) ≡ width k) → (each n i c).Lawful xs
+    → length ((each n i c).spell xs) ≡ total n i width
 unfolding each cons absent total
 each_width zero i c width xs h l = refl
 each_width (suc n) i c width [] h l = absurd l
@@ -40,7 +43,8 @@ each_width (suc n) i c width (x ∷ xs) h l =
 pub same_total : (n i : ℕ) (f g : ℕ → ℕ) → ((k : ℕ) → i ≤ k → k < i + n → f k ≡ g k) → total n i f ≡ total n i g
 unfolding total
 same_total zero i f g h = refl
-same_total (suc n) i f g h = ap₂ (λ a b. a + b) (h i (omega arith) (omega arith)) (same_total n (suc i) f g (λ k le lt. h k (omega arith) (omega arith)))
+same_total (suc n) i f g h =
+    ap₂ (λ a b. a + b) (h i (omega arith) (omega arith)) (same_total n (suc i) f g (λ k le lt. h k (omega arith) (omega arith)))
 
 pub none_total : (n i : ℕ) → total n i (λ k. 0) ≡ 0
 unfolding total
@@ -82,8 +86,12 @@ full_total full w h = below_total 5 0 full w (omega arith) ∙ ap (λ (m : ℕ).
 
 -- for channels that are coupled all or none
 pub both_total : (full w : ℕ) (used : Bool) → full ≤ 5 → total 5 0 (λ k. when (nat_lt k full && used) w) ≡ when used (full * w)
-both_total full w true h = same_total 5 0 (λ k. when (nat_lt k full && true) w) (λ k. when (nat_lt k full) w) (λ k le lt. ap (λ b. when b w) (and_true (nat_lt k full))) ∙ full_total full w h
-both_total full w false h = same_total 5 0 (λ k. when (nat_lt k full && false) w) (λ k. 0) (λ k le lt. ap (λ b. when b w) (and_false (nat_lt k full))) ∙ none_total 5 0
+both_total full w true h =
+    same_total 5 0 (λ k. when (nat_lt k full && true) w) (λ k. when (nat_lt k full) w)
+    (λ k le lt. ap (λ b. when b w) (and_true (nat_lt k full))) ∙ full_total full w h
+both_total full w false h =
+    same_total 5 0 (λ k. when (nat_lt k full && false) w) (λ k. 0) (λ k le lt. ap (λ b. when b w) (and_false (nat_lt k full)))
+    ∙ none_total 5 0
 
 -- for bands
 pub bands_total : (bands : ℕ) → bands ≤ 18 → total 18 0 (λ k. when (nat_lt k bands) 8) ≡ bands * 8
@@ -93,7 +101,8 @@ pub joined_total : (n : ℕ) → n ≤ 18 → total 18 0 (λ k. when (nat_le 1 k
 unfolding total
 joined_total n h =
     let r : total 17 1 (λ k. when (nat_le 1 k && nat_lt k n) 1) ≡ total 17 1 (λ k. when (nat_lt k n) 1) =
-    same_total 17 1 (λ k. when (nat_le 1 k && nat_lt k n) 1) (λ k. when (nat_lt k n) 1) (λ k le lt. ap (λ b. when (b && nat_lt k n) 1) (le-leb 1 k le)) in
+    same_total 17 1 (λ k. when (nat_le 1 k && nat_lt k n) 1) (λ k. when (nat_lt k n) 1)
+    (λ k le lt. ap (λ b. when (b && nat_lt k n) 1) (le-leb 1 k le)) in
     let s = below_total 17 1 n 1 (omega arith) in
     let e : (n - 1) * 1 ≡ n - 1 = mul-one (n - 1) in
     let t : total 17 1 (λ k. when (nat_le 1 k && nat_lt k n) 1) ≡ n - 1 = r ∙ (s ∙ e) in
@@ -116,8 +125,10 @@ l3 a b c = omega (arith, l2 a (b ++ c), l2 b c)
 pub l4 : (a b c d : List Bool) → length (a ++ (b ++ (c ++ d))) ≡ length a + length b + length c + length d
 l4 a b c d = omega (arith, l2 a (b ++ (c ++ d)), l3 b c d)
 
-pub l6 : (a b c d e f : List Bool) → length (a ++ (b ++ (c ++ (d ++ (e ++ f))))) ≡ length a + length b + length c + length d + length e + length f
+pub l6 : (a b c d e f : List Bool) → length (a ++ (b ++ (c ++ (d ++ (e ++ f))))) ≡ length a + length b + length c + length d + length e
+    + length f
 l6 a b c d e f = omega (arith, l3 a b (c ++ (d ++ (e ++ f))), l4 c d e f)
 
-pub l7 : (a b c d e f g : List Bool) → length (a ++ (b ++ (c ++ (d ++ (e ++ (f ++ g)))))) ≡ length a + length b + length c + length d + length e + length f + length g
+pub l7 : (a b c d e f g : List Bool) → length (a ++ (b ++ (c ++ (d ++ (e ++ (f ++ g)))))) ≡ length a + length b + length c + length d
+    + length e + length f + length g
 l7 a b c d e f g = omega (arith, l2 a (b ++ (c ++ (d ++ (e ++ (f ++ g))))), l6 b c d e f g)

@@ -1,5 +1,6 @@
 //! A block with each value that it lacks and needs (A/52 5.4.3).
-ghost use Rattle.std.specs.Prelude.{◌≡◌, ◌<◌, ◌≤◌, ◌&&◌, ℕ, Bool, nat_lt, nat_le, is_some, if◌then◌else◌, [], Option, Some, None, slice_index_or, length};
+ghost use Rattle.std.specs.Prelude.{◌≡◌, ◌<◌, ◌≤◌, ◌&&◌, ℕ, Bool, nat_lt, nat_le, is_some, if◌then◌else◌, [], Option, Some, None};
+ghost use Rattle.std.specs.Prelude.{slice_index_or, length};
 ghost use Rattle.std.specs.Option.{option_or};
 ghost use Rattle.ac_base.specs.Shape.{full_of, is_stereo, subbands, rematrix_bands};
 ghost use Rattle.ac_rows.specs.Groups.{strategy_of};
@@ -7,10 +8,10 @@ ghost use Rattle.ac_rows.specs.Filled.{entry, holds, listed, channel_coupled, co
 ghost use Rattle.ac_syntax.specs.Filling.{or_if, filled_by};
 
 use crate::latest::latest;
+use ac_base::rematrix_bands;
 use ac_expo::Spelled;
-use ac_rows::{
-    Block, Coupling, Head, Strategy, both, coupling_of, full_channels, holds, over, stereo,
-};
+use ac_rows::known::{strategy_of, subband_count};
+use ac_rows::{Block, Coupling, Head, both, coupling_of, full_channels, holds, over, stereo};
 
 /// Whether a place is below an end.
 #[inline]
@@ -237,17 +238,6 @@ fn rematrix(there: bool, own: Option<bool>, kept: Option<bool>) -> Option<bool>
     }
 }
 
-/// The number of rematrix bands, by cplbegf under coupling (A/52 7.5.2).
-fn rematrix_count(c: &Coupling) -> usize
-    ensures { result ≡ rematrix_bands c.now.range }
-{
-    match c.range {
-        Some((0, _)) => 2,
-        Some((1 | 2, _)) => 3,
-        _ => 4,
-    }
-}
-
 /// The rematrix flags of two channels.
 #[tactic(auto, unfolding(ac_rows::specs::Filled::listed))]
 fn rematrix_flags(
@@ -259,7 +249,7 @@ fn rematrix_flags(
     ensures { result ≡ listed 4 0 (λ j. if is_stereo h.now.acmod && nat_lt j (rematrix_bands c.now.range)
         then Some (holds (option_or (entry own.now j) (entry kept.now j))) else None) }
 {
-    let count = rematrix_count(c);
+    let count = usize::from(rematrix_bands(c.range));
     let two = stereo(h.acmod);
     [
         rematrix(both(two, below(0, count)), own[0], kept[0]),
@@ -267,16 +257,6 @@ fn rematrix_flags(
         rematrix(both(two, below(2, count)), own[2], kept[2]),
         rematrix(both(two, below(3, count)), own[3], kept[3]),
     ]
-}
-
-/// The subbands of a coupling.
-fn subband_count(c: &Coupling) -> usize
-    ensures { result ≡ subbands c.now.range }
-{
-    match c.range {
-        Some((begin, end)) => (3 + usize::from(end)).saturating_sub(usize::from(begin)),
-        None => 0,
-    }
 }
 
 /// The phase flags of two channels.
@@ -300,7 +280,7 @@ fn structure(
 ) -> [Option<bool>; 18]
     ensures { result ≡ listed 18 0 (λ j. or_if (nat_le 1 j && nat_lt j (subbands c.now.range)) (entry own.now j) (entry kept.now j)) }
 {
-    structure_of(subband_count(c), own, kept)
+    structure_of(subband_count(c.range), own, kept)
 }
 
 /// Whether coupling is in use.
@@ -349,21 +329,6 @@ fn filled_by(h: &Head, c: &Coupling, k: &Block, b: &Block) -> Block
     all.cplfleak = needed_number(used, b.cplfleak, k.cplfleak);
     all.cplsleak = needed_number(used, b.cplsleak, k.cplsleak);
     all
-}
-
-/// The coupling strategy of a block.
-fn strategy_of(b: &Block) -> Strategy
-    ensures { result ≡ strategy_of b.now }
-{
-    Strategy {
-        cplstre: b.cplstre,
-        cplinu: b.cplinu,
-        chincpl: b.chincpl,
-        phsflginu: b.phsflginu,
-        cplbegf: b.cplbegf,
-        cplendf: b.cplendf,
-        cplbndstrc: b.cplbndstrc,
-    }
 }
 
 /// The coupling that holds in a block.

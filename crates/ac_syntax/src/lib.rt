@@ -8,7 +8,9 @@ mod latest;
 mod laws;
 
 pub use ac_codec::{Refused, Row};
-pub use ac_rows::{Block, Head, read_block, read_head, write_block, write_head};
+pub use ac_row_reading::{read_block, read_head};
+pub use ac_row_writing::{write_block, write_head};
+pub use ac_rows::{Block, Head};
 pub use bins::spans;
 pub use filling::filled;
 pub use laws::{side_laws, syntax_laws};

@@ -5,6 +5,9 @@ ghost use Rattle.ac_rows.specs.BlockRows.{block_fields, whole_block, skip_bits, 
 use super::*;
 use ac_bits::{BitSink, BitSource};
 use ac_expo::Spelled;
+use ac_rows::channels::{center, full_channels, stereo, surround};
+use ac_rows::free_bits::{extra, skipped};
+use ac_rows::span::{full_span, next_span};
 
 mod frames;
 mod refusals;
@@ -332,4 +335,53 @@ fn fields_written_back(rt: HostRuntime) {
     } else {
         assert!(rt; false);
     }
+}
+
+/// Six bytes of a second program whose bsid is 10: it stands behind 40 bits.
+#[test]
+fn source_stands_where_the_refused_field_began(rt: HostRuntime) {
+    let bytes = [11, 119, 1, 2, 0, 80];
+    let mut source = BitSource::new(&bytes, 48);
+    assert_eq!(rt; read_head(&mut source), Err(Refused::BadBsid(10)));
+    assert_eq!(rt; source.left(), 8);
+}
+
+/// A/52 Table 5.8, and the fields that 5.4.2.4 to 5.4.2.6 ask for by it.
+#[test]
+fn channels_by_acmod(rt: HostRuntime) {
+    let full = [2, 1, 2, 3, 3, 4, 4, 5];
+    let two = [false, false, true, false, false, false, false, false];
+    let centers = [false, false, false, true, false, true, false, true];
+    let surrounds = [false, false, false, false, true, true, true, true];
+    for acmod in 0..8u8 {
+        let i = usize::from(acmod);
+        assert_eq!(rt; full_channels(acmod), full[i]);
+        assert_eq!(rt; stereo(acmod), two[i]);
+        assert_eq!(rt; center(acmod), centers[i]);
+        assert_eq!(rt; surround(acmod), surrounds[i]);
+    }
+}
+
+/// A/52 5.4.2.30 and 5.4.3.59: addbsil + 1 bytes, and skipl bytes.
+#[test]
+fn free_bits_by_their_counts(rt: HostRuntime) {
+    assert_eq!(rt; extra(None), 0);
+    assert_eq!(rt; extra(Some(0)), 8);
+    assert_eq!(rt; extra(Some(63)), 512);
+    assert_eq!(rt; skipped(None), 0);
+    assert_eq!(rt; skipped(Some(0)), 0);
+    assert_eq!(rt; skipped(Some(511)), 4088);
+}
+
+/// A/52 7.1.3: bins 0 to 252 at chbwcod 60, to 36 below a coupling from subband 0, and 37 to 252 for all its subbands.
+#[test]
+fn spans_by_coupling(rt: HostRuntime) {
+    let free = full_span(None, 60);
+    assert_eq!(rt; (free.start, free.end), (0, 253));
+    let coupled = full_span(Some((0, 15)), 0);
+    assert_eq!(rt; (coupled.start, coupled.end), (0, 37));
+    let shared = next_span(Some((0, 15)));
+    assert_eq!(rt; (shared.start, shared.end), (37, 253));
+    let low = next_span(None);
+    assert_eq!(rt; (low.start, low.end), (0, 7));
 }

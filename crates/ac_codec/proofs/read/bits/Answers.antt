@@ -13,14 +13,17 @@ returns-in_err-all c =
     let p = err_from_is_err_and c.from_residual.result c.from_residual.ensures.1 in
     let l = c.loop-i in
     let row = rows c.args.from c.args.to in
-    rw (p.1, p.2) (ends row (take l.i l.all) 18 l.i l.source c.in_err-all.field-0.0 c.optional_bit.new.source ((each 18 0 row).read c.args.source.now) c.loop-i-test.true (rw (← c.within-there.ensures) c.in_err-all.ensures) l.invariant.reads)
+    rw (p.1, p.2) (ends row (take l.i l.all) 18 l.i l.source c.in_err-all.field-0.0 c.optional_bit.new.source
+    ((each 18 0 row).read c.args.source.now) c.loop-i-test.true (rw (← c.within-there.ensures) c.in_err-all.ensures) l.invariant.reads)
 
 pub loop-i-preserved : goal.loop-i-preserved
 loop-i-preserved c =
     let l = c.loop-i in
     let row = rows c.args.from c.args.to in
     let room : l.i < length l.all = omega arith in
-    let more = goes_on row (take l.i l.all) c.in_ok-all.field-0 18 l.i l.source c.optional_bit.new.source ((each 18 0 row).read c.args.source.now) c.loop-i-test.true (rw (← c.within-there.ensures) c.in_ok-all.ensures) l.invariant.reads in
+    let more =
+    goes_on row (take l.i l.all) c.in_ok-all.field-0 18 l.i l.source c.optional_bit.new.source ((each 18 0 row).read c.args.source.now)
+    c.loop-i-test.true (rw (← c.within-there.ensures) c.in_ok-all.ensures) l.invariant.reads in
     record {
       reads = rw (take_more_set l.all l.i c.in_ok-all.field-0 room) more;
       whole = length-set l.all l.i c.in_ok-all.field-0 ∙ l.invariant.whole;
@@ -29,5 +32,6 @@ loop-i-preserved c =
 pub returns : goal.returns
 returns c =
     let l = c.loop-i in
-    is_done (rows c.args.from c.args.to) (take l.i l.all) 18 l.i l.source ((each 18 0 (rows c.args.from c.args.to)).read c.args.source.now) c.loop-i-test.false l.invariant.reads
+    is_done (rows c.args.from c.args.to) (take l.i l.all) 18 l.i l.source ((each 18 0 (rows c.args.from c.args.to)).read c.args.source.now)
+    c.loop-i-test.false l.invariant.reads
     ∙ ap (λ x. Ok (x, l.source)) (take_all l.i l.all (omega arith))

@@ -6,4 +6,9 @@ pub returns-then-left-bits : goal.returns-then-left-bits
 returns-then-left-bits c = free_out c.args.bits c.args.source.now (rw (← c.left.ensures) c.if-left-bits.true)
 
 pub returns : goal.returns
-returns c = (take c.args.bits c.args.source.now, refl, rw c.pass_over.ensures (free_ok c.args.bits c.args.source.now (rw (← c.left.ensures) c.if-left-bits.false)))
+returns c = (
+  take c.args.bits c.args.source.now,
+  refl,
+  rw c.pass_over.ensures
+      (free_ok c.args.bits c.args.source.now (rw (← c.left.ensures) c.if-left-bits.false)),
+)

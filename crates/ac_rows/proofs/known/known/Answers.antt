@@ -11,5 +11,7 @@ loop-block-preserved c =
     let l = c.loop-block in
     let bs = c.args.earlier.now in
     let b = c.block-item.result in
-    let next : take (l.block-index + 1) bs ≡ take l.block-index bs ++ b ∷ [] = take_more bs l.block-index b c.loop-block-test.true ∙ ap (λ (x : Block). take l.block-index bs ++ x ∷ []) (sym c.block-item.is) in
-    c.after-known.ensures ∙ (ap (λ (k : Known). after k b) l.invariant ∙ (sym (known_more (take l.block-index bs) b) ∙ ap known_of (sym next)))
+    let next : take (l.block-index + 1) bs ≡ take l.block-index bs ++ b ∷ [] =
+    take_more bs l.block-index b c.loop-block-test.true ∙ ap (λ (x : Block). take l.block-index bs ++ x ∷ []) (sym c.block-item.is) in
+    c.after-known.ensures ∙ (ap (λ (k : Known). after k b) l.invariant
+    ∙ (sym (known_more (take l.block-index bs) b) ∙ ap known_of (sym next)))

@@ -7,6 +7,7 @@ use Rattle.ac_syntax.proofs.filling.phase_flags_where.Given as goal
 abbrev pub invariant-loop-j : goal.invariant-loop-j
 invariant-loop-j l =
     record {
-      each : (j : ℕ) → j < l.j → get_or l.all j None ≡ (if l.two && nat_lt j l.c.bands then Some (l.c.phases && holds (option_or (entry l.own j) (entry l.kept j))) else None);
+      each : (j : ℕ) → j < l.j → get_or l.all j None ≡ (if l.two && nat_lt j l.c.bands then Some
+          (l.c.phases && holds (option_or (entry l.own j) (entry l.kept j))) else None);
       len : length l.all ≡ 18;
     }

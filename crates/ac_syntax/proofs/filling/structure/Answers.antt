@@ -5,4 +5,6 @@ use Rattle.ac_syntax.specs.Filling.{or_if}
 use Rattle.ac_syntax.proofs.filling.structure.Goals as goal
 
 pub returns : goal.returns
-returns c = c.structure_of.ensures ∙ ap (λ n. listed 18 0 (λ j. or_if (nat_le 1 j && nat_lt j n) (entry c.args.own.now j) (entry c.args.kept.now j))) c.subband_count.ensures
+returns c =
+    c.structure_of.ensures ∙ ap (λ n. listed 18 0 (λ j. or_if (nat_le 1 j && nat_lt j n) (entry c.args.own.now j)
+    (entry c.args.kept.now j))) c.subband_count.ensures

@@ -7,4 +7,5 @@ use Rattle.ac_syntax.proofs.latest.band_flags.Goals as goal
 pub returns : goal.returns
 returns c =
     let l = c.loop-k in
-    is_listed 18 l.all (λ k. option_or (entry c.args.own.now k) (entry c.args.kept.now k)) None l.invariant.len (λ k lt. l.invariant.each k (omega (arith, c.loop-k-test.false)))
+    is_listed 18 l.all (λ k. option_or (entry c.args.own.now k) (entry c.args.kept.now k)) None l.invariant.len
+    (λ k lt. l.invariant.each k (omega (arith, c.loop-k-test.false)))
