@@ -1,0 +1,5 @@
+pub mod Blocks
+pub mod Heads
+pub mod Leading
+pub mod Mantissas
+pub mod Whole

@@ -1,0 +1,9 @@
+pub mod Channels
+pub mod Empty
+pub mod Faults
+pub mod Frames
+pub mod Held
+pub mod Laws
+pub mod Order
+pub mod Readings
+pub mod Records
