@@ -1,0 +1,16 @@
+pub mod Blocks
+pub mod Coupling
+pub mod Fits
+pub mod Flat
+pub mod HeldFits
+pub mod HeldSpells
+pub mod Latest
+pub mod Offsets
+pub mod OneBlock
+pub mod Orders
+pub mod Rooms
+pub mod Rows
+pub mod Sizes
+pub mod Steps
+pub mod Unpacking
+pub mod Whole

@@ -1,0 +1,5 @@
+pub mod Begun
+pub mod Cells
+pub mod Framed
+pub mod Mantissas
+pub mod Spells
