@@ -1,0 +1,12 @@
+use Rattle.std.proofs.Common.{None, arith}
+use Rattle.std.specs.Prelude.{◌&&◌, nat_lt, slice_index_or}
+use Rattle.ac_rows.proofs.Listed.{is_listed}
+use Rattle.ac_sent.specs.Fields.{when}
+use Rattle.ac_fields.proofs.arrays.coordinate_exponents.Goals as goal
+
+pub returns : goal.returns
+returns c =
+    let l = c.loop-k in
+    is_listed 18 l.all
+    (λ k. when (c.args.there && nat_lt k c.args.bands) (slice_index_or c.args.coordinates.now k (record { exp = 0; mant = 0 })).exp)
+    None l.invariant.len (λ k lt. l.invariant.each k (omega (arith, c.loop-k-test.false)))

@@ -1,0 +1,4 @@
+pub mod Asked
+pub mod Fields
+pub mod Laws
+pub mod Packed
