@@ -1,0 +1,9 @@
+pub mod Completing
+pub mod Filling
+pub mod Leasts
+pub mod Offsets
+pub mod Onward
+pub mod Rows
+pub mod Spelling
+pub mod Sums
+pub mod Threes
