@@ -1,7 +1,7 @@
 -- What is handed in has what the blocks ask.
 use Rattle.std.proofs.Common.{◌<◌, ℕ, arith}
 use Rattle.ac_sent.specs.Asked.{IsQuantised}
-use Rattle.ac_sent.specs.declared.quantised.Quantised.{Quantised}
+use Rattle.ac_sent.specs.Values.{Quantised}
 use Rattle.ac_fields.specs.Asked.{HasFields}
 
 -- values that may be handed in for a frame have the fields of each block

@@ -11,7 +11,7 @@ use Rattle.ac_alloc.specs.Integration.{AreExponents}
 use Rattle.ac_alloc.specs.Pointers as allocation
 use Rattle.ac_alloc.proofs.Reading.{pointers_by_span}
 use Rattle.ac_expo.specs.Raw.{channel_span, channels}
-use Rattle.ac_sent.specs.declared.quantised.Quantised.{Quantised}
+use Rattle.ac_sent.specs.Values.{Quantised}
 use Rattle.ac_sent.specs.Asked.{IsQuantised}
 use Rattle.ac_sent.specs.Fields.{code_at, exponents_at}
 use Rattle.ac_sent.proofs.Spans.{is_span}

@@ -14,7 +14,7 @@ use Rattle.ac_rows.specs.HeadRows.{head_fields, whole_head, addbsi_bits}
 use Rattle.ac_rows.specs.BlockRows.{block_fields, whole_block, skip_bits}
 use Rattle.ac_rows.specs.Filled.{listed}
 use Rattle.ac_record.specs.Records.{block_spelled, blocks_spelled, record_spelled}
-use Rattle.ac_sent.specs.declared.quantised.Quantised.{Quantised}
+use Rattle.ac_sent.specs.Values.{Quantised}
 use Rattle.ac_sent.specs.Asked.{IsQuantised, IsSizeCode}
 use Rattle.ac_sent.specs.Fields.{sent_head, sent_fields, sent_block, parts_at}
 use Rattle.ac_sent.specs.Packed.{sent_mantissas, sent_part, sent_record}

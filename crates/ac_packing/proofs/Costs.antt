@@ -16,7 +16,7 @@ use Rattle.ac_mant.specs.declared.counts.Counts.{Counts}
 use Rattle.ac_mant.specs.Counts.{tally, AreWithin}
 use Rattle.ac_mant.specs.Groups.{pointers, zeros, AreCoded}
 use Rattle.ac_mant.proofs.Costs.{whole_cost}
-use Rattle.ac_sent.specs.declared.quantised.Quantised.{Quantised}
+use Rattle.ac_sent.specs.Values.{Quantised}
 use Rattle.ac_sent.specs.Asked.{IsQuantised}
 use Rattle.ac_sent.specs.Fields.{parts_at}
 use Rattle.ac_sent.specs.Packed.{sent_mantissas}

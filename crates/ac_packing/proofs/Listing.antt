@@ -14,7 +14,7 @@ use Rattle.ac_mant.specs.declared.coded.Coded.{Coded}
 use Rattle.ac_mant.specs.Groups.{coded}
 use Rattle.ac_record.specs.Order.{with_coupling, order_of, over_bins, over_channels}
 use Rattle.ac_record.specs.Readings.{cell}
-use Rattle.ac_sent.specs.declared.quantised.Quantised.{Quantised}
+use Rattle.ac_sent.specs.Values.{Quantised}
 use Rattle.ac_sent.specs.Fields.{low_number}
 use Rattle.ac_sent.specs.Packed.{sent_mantissas}
 use Rattle.ac_sent.proofs.Spans.{full_least}

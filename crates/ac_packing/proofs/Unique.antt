@@ -12,7 +12,7 @@ use Rattle.ac_record.specs.Laws.{AreBytes}
 use Rattle.ac_record.specs.Records.{record_spelled, words_of}
 use Rattle.ac_frame.specs.Plain.{front_part, all_part}
 use Rattle.ac_record.proofs.Leading.{head_is}
-use Rattle.ac_sent.specs.declared.quantised.Quantised.{Quantised}
+use Rattle.ac_sent.specs.Values.{Quantised}
 use Rattle.ac_sent.specs.Asked.{IsQuantised, IsSizeCode}
 use Rattle.ac_sent.specs.Fields.{sent_head}
 use Rattle.ac_sent.specs.Packed.{sent_record, IsPacked}

@@ -7,7 +7,7 @@ use Rattle.ac_base.specs.Fit.{exponent_bits, mantissas_in}
 use Rattle.ac_base.specs.Shape.{full_of}
 use Rattle.ac_base.specs.Spans.{IsIn}
 use Rattle.ac_expo.specs.Raw.{channel_span, channels}
-use Rattle.ac_sent.specs.declared.quantised.Quantised.{Quantised}
+use Rattle.ac_sent.specs.Values.{Quantised}
 use Rattle.ac_mant.specs.declared.coded.Coded.{Coded}
 use Rattle.ac_mant.specs.Groups.{coded}
 use Rattle.ac_record.specs.Readings.{cell}

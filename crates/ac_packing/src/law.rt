@@ -1,7 +1,7 @@
 //! What is true of every frame that is packed.
 ghost use Rattle.std.specs.Prelude.{◌≡◌, ◌≢◌, ◌*◌, ℕ, List, length};
 ghost use Rattle.ac_record.specs.Laws.{AreBytes};
-ghost use Rattle.ac_sent.specs.declared.quantised.Quantised.{Quantised};
+ghost use Rattle.ac_sent.specs.Values.{Quantised};
 ghost use Rattle.ac_sent.specs.Asked.{IsQuantised};
 ghost use Rattle.ac_sent.specs.Packed.{IsPacked};
 

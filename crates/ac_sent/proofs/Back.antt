@@ -26,7 +26,7 @@ use Rattle.ac_record.specs.Order.{in_order, over_channels}
 use Rattle.ac_record.specs.Readings.{cell, HoldsIn, IsBlockReading, AreBlockReadings, IsReadingOf}
 use Rattle.ac_record.specs.Records.{BlockRecord, Record, fields_of, blocks_spelled, tail_spelled, record_spelled, words_of, StandsFor}
 use Rattle.ac_record.proofs.Whole.{one_record}
-use Rattle.ac_sent.specs.declared.quantised.Quantised.{Quantised}
+use Rattle.ac_sent.specs.Values.{Quantised}
 use Rattle.ac_sent.specs.Asked.{IsQuantised}
 use Rattle.ac_sent.specs.Fields.{sent_head, sent_block, pointer_at}
 use Rattle.ac_sent.specs.Laws.{IsBack, ReadingGivesBack}

@@ -21,7 +21,7 @@ use Rattle.ac_rows.specs.Groups.{strategy_of, shared_of, codes_of, exponents_of,
 use Rattle.ac_rows.specs.Known.{known_of, may_keep_coordinates, may_keep_shared, may_keep_channel}
 use Rattle.ac_rows.specs.Spelled.{spelled_row}
 use Rattle.ac_rows.specs.BlockRows.{shared, codes, exponents, allocation, block_rows, block_fields, whole_block, skip_bits, coupling_now}
-use Rattle.ac_sent.specs.declared.quantised.Quantised.{Quantised}
+use Rattle.ac_sent.specs.Values.{Quantised}
 use Rattle.ac_sent.specs.Asked.{IsQuantised}
 use Rattle.ac_sent.specs.Fields.{sent_head, sent_fields, sent_block, code_at, exponents_at, coordinate_at, low_number, rematrixed, skip_at, parts_at}
 use Rattle.ac_frame.specs.Padding.{skip, to_skip}

@@ -10,7 +10,7 @@ use Rattle.ac_rows.specs.declared.groups.Strategy.{Strategy}
 use Rattle.ac_rows.specs.declared.groups.Coupling.{Coupling}
 use Rattle.ac_rows.specs.Groups.{strategy_of}
 use Rattle.ac_rows.specs.Filled.{listed, entry, holds, latest, held, over, latest_strategy, is_coupled, coupling_of, coupling_in}
-use Rattle.ac_sent.specs.declared.quantised.Quantised.{Quantised}
+use Rattle.ac_sent.specs.Values.{Quantised}
 use Rattle.ac_sent.specs.Fields.{when, sent_fields, sent_block, begin_code, end_code}
 use Rattle.ac_sent.proofs.Listed.{entry_at, listed_same}
 use Rattle.ac_sent.proofs.Tests.{holds_when, and_true}

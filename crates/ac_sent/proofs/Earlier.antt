@@ -6,7 +6,7 @@ use Rattle.std.proofs.lemmas.Bool.{ne_eqb}
 use Rattle.ac_rows.specs.Blocks.{Block}
 use Rattle.ac_rows.specs.Filled.{listed, latest_in, latest, held}
 use Rattle.ac_rows.proofs.Later.{latest_more, any_more}
-use Rattle.ac_sent.specs.declared.quantised.Quantised.{Quantised}
+use Rattle.ac_sent.specs.Values.{Quantised}
 use Rattle.ac_sent.specs.Fields.{sent_fields, sent_block, skip_at}
 use Rattle.ac_sent.proofs.Listed.{listed_more}
 

@@ -21,7 +21,7 @@ use Rattle.ac_rows.specs.Filled.{listed}
 use Rattle.ac_rows.specs.Groups.{exponents_of}
 use Rattle.ac_rows.specs.Spelled.{spelling_bits}
 use Rattle.ac_syntax.specs.Sent.{exponent_rows}
-use Rattle.ac_sent.specs.declared.quantised.Quantised.{Quantised}
+use Rattle.ac_sent.specs.Values.{Quantised}
 use Rattle.ac_sent.specs.Fields.{when, sent_fields, code_at, exponents_at, spelling_at, low_number}
 use Rattle.ac_sent.proofs.Listed.{listed_more, zipped_listed}
 use Rattle.ac_sent.proofs.Spans.{span_full, span_next, span_low, full_most}

@@ -10,7 +10,7 @@ use Rattle.ac_rows.specs.Blocks.{Block}
 use Rattle.ac_rows.specs.declared.groups.Coupling.{Coupling}
 use Rattle.ac_rows.specs.Groups.{strategy_of}
 use Rattle.ac_rows.specs.Filled.{entry, holds, number, held, needed, channel_coupled, coupling_in, range_of, is_coupled, blank_span, filled_of, span_in}
-use Rattle.ac_sent.specs.declared.quantised.Quantised.{Quantised}
+use Rattle.ac_sent.specs.Values.{Quantised}
 use Rattle.ac_sent.specs.Asked.{IsQuantised}
 use Rattle.ac_sent.specs.Fields.{when, sent_head, sent_fields, sent_block, begin_code, end_code, low_number}
 use Rattle.ac_sent.proofs.Listed.{entry_at}

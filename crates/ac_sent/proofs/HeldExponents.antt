@@ -12,7 +12,7 @@ use Rattle.ac_expo.proofs.Spellings.{back}
 use Rattle.ac_rows.specs.Blocks.{Block}
 use Rattle.ac_rows.specs.Filled.{entry, holds, number, latest, held}
 use Rattle.ac_record.specs.Held.{with_kind, sent_exponents, held_exponents, exponent_by, exponent_in}
-use Rattle.ac_sent.specs.declared.quantised.Quantised.{Quantised}
+use Rattle.ac_sent.specs.Values.{Quantised}
 use Rattle.ac_sent.specs.Asked.{IsQuantised}
 use Rattle.ac_sent.specs.Fields.{when, sent_head, sent_fields, sent_block, code_at, exponents_at, spelling_at, low_number, skip_at}
 use Rattle.ac_sent.proofs.Listed.{entry_at}

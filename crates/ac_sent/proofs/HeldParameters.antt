@@ -15,7 +15,7 @@ use Rattle.ac_rows.specs.declared.groups.Coupling.{Coupling}
 use Rattle.ac_rows.specs.Filled.{entry, holds, number, held, needed, coupling_in, filled_of}
 use Rattle.ac_record.specs.Channels.{coded_in}
 use Rattle.ac_record.specs.Held.{fine_of, gain_of, offset_of, is_silent, params_in}
-use Rattle.ac_sent.specs.declared.quantised.Quantised.{Quantised}
+use Rattle.ac_sent.specs.Values.{Quantised}
 use Rattle.ac_sent.specs.Fields.{when, sent_head, sent_fields, sent_block}
 use Rattle.ac_sent.proofs.Listed.{entry_at}
 use Rattle.ac_sent.proofs.Spans.{full_least, full_most}

@@ -22,7 +22,7 @@ use Rattle.ac_record.specs.Held.{params_in, offset_of, exponents_in, exponent_in
 use Rattle.ac_record.specs.Order.{order_of, over_channels, in_order}
 use Rattle.ac_record.specs.Readings.{cell}
 use Rattle.ac_record.specs.Records.{IsBlock}
-use Rattle.ac_sent.specs.declared.quantised.Quantised.{Quantised}
+use Rattle.ac_sent.specs.Values.{Quantised}
 use Rattle.ac_sent.specs.Asked.{IsQuantised}
 use Rattle.ac_sent.specs.Fields.{sent_head, sent_block, exponents_at, pointer_at, low_number}
 use Rattle.ac_sent.specs.Packed.{sent_mantissas, sent_part}

@@ -7,7 +7,7 @@ use Rattle.ac_crc.proofs.Remainders.{trails, one_trailing, one_leading}
 use Rattle.ac_record.specs.Records.{record_spelled, IsRecord}
 use Rattle.ac_frame.specs.Plain.{front_part, all_part}
 use Rattle.ac_record.proofs.Leading.{head_is}
-use Rattle.ac_sent.specs.declared.quantised.Quantised.{Quantised}
+use Rattle.ac_sent.specs.Values.{Quantised}
 use Rattle.ac_sent.specs.Asked.{IsQuantised}
 use Rattle.ac_sent.specs.Fields.{sent_head}
 use Rattle.ac_sent.specs.Laws.{OneFrame}

@@ -9,7 +9,7 @@ use Rattle.ac_rows.specs.declared.groups.Coupling.{Coupling}
 use Rattle.ac_rows.specs.Filled.{listed, entry, holds, number, latest_in, latest, held, channel_coupled, coupling_in, begin_of, channel_end, end_free}
 use Rattle.ac_rows.specs.Known.{is_begun, known_of, bands_given, range_sent, end_sent, is_count, covers, reaches, may_keep_coordinates, may_keep_shared, may_keep_channel}
 use Rattle.ac_rows.proofs.Later.{begun_more}
-use Rattle.ac_sent.specs.declared.quantised.Quantised.{Quantised}
+use Rattle.ac_sent.specs.Values.{Quantised}
 use Rattle.ac_sent.specs.Asked.{IsQuantised}
 use Rattle.ac_sent.specs.Fields.{when, sent_fields, sent_block, code_at, low_number}
 use Rattle.ac_sent.proofs.Listed.{entry_at}

@@ -3,7 +3,7 @@ use Rattle.std.proofs.Common.{ℕ, zero, suc, ◌+◌, ◌≤◌, List, [], subs
 use Rattle.ac_rows.specs.Blocks.{Block}
 use Rattle.ac_rows.specs.Filled.{listed}
 use Rattle.ac_record.specs.Records.{AreBlocks}
-use Rattle.ac_sent.specs.declared.quantised.Quantised.{Quantised}
+use Rattle.ac_sent.specs.Values.{Quantised}
 use Rattle.ac_sent.specs.Asked.{IsQuantised}
 use Rattle.ac_sent.specs.Fields.{sent_head}
 use Rattle.ac_sent.specs.Packed.{sent_part, sent_record}

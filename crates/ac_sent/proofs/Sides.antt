@@ -22,7 +22,7 @@ use Rattle.ac_rows.proofs.BlockBits.{block_same, block_length}
 use Rattle.ac_rows.proofs.FilledSpans.{lawful_more}
 use Rattle.ac_syntax.specs.Sent.{IsFirstSent, IsLaterSent, exponent_rows}
 use Rattle.ac_syntax.proofs.BlockSide.{first_is_side, later_is_side}
-use Rattle.ac_sent.specs.declared.quantised.Quantised.{Quantised}
+use Rattle.ac_sent.specs.Values.{Quantised}
 use Rattle.ac_sent.specs.Asked.{IsQuantised}
 use Rattle.ac_sent.specs.Fields.{when, sent_head, sent_fields, sent_block, skip_at}
 use Rattle.ac_frame.specs.Padding as padding

@@ -15,7 +15,7 @@ use Rattle.ac_rows.specs.BlockRows.{block_fields, whole_block, skip_bits}
 use Rattle.ac_rows.specs.Filled.{listed}
 use Rattle.ac_record.specs.Records.{Record, block_spelled, blocks_spelled, tail_spelled, record_spelled}
 use Rattle.ac_syntax.proofs.SideLaws.{head_is_side}
-use Rattle.ac_sent.specs.declared.quantised.Quantised.{Quantised}
+use Rattle.ac_sent.specs.Values.{Quantised}
 use Rattle.ac_sent.specs.Asked.{IsQuantised}
 use Rattle.ac_sent.specs.Fields.{sent_head, sent_block, pointer_at, parts_at}
 use Rattle.ac_sent.specs.Laws.{KeepsRooms, SentHasSize}

@@ -13,7 +13,7 @@ use Rattle.ac_expo.specs.Raw.{channel_span}
 use Rattle.ac_mant.specs.Groups.{closed, zeros, spelled}
 use Rattle.ac_mant.proofs.Costs.{whole_cost}
 use Rattle.ac_record.specs.Order.{with_coupling, order_of, over_bins, over_channels}
-use Rattle.ac_sent.specs.declared.quantised.Quantised.{Quantised}
+use Rattle.ac_sent.specs.Values.{Quantised}
 use Rattle.ac_sent.specs.Fields.{pointer_at}
 use Rattle.ac_sent.specs.Packed.{sent_mantissas}
 use Rattle.ac_sent.proofs.Tests.{and_not}

@@ -9,7 +9,7 @@ use Rattle.ac_expo.specs.Greatest.{IsSpellable}
 use Rattle.ac_expo.specs.Raw.{channel_span, channels}
 use Rattle.ac_mant.specs.Quantiser.{IsCode}
 use Rattle.ac_record.specs.Readings.{cell}
-use Rattle.ac_sent.specs.declared.quantised.Quantised.{Quantised}
+use Rattle.ac_sent.specs.Values.{Quantised}
 use Rattle.ac_sent.specs.Fields.{code_at, exponents_at, pointer_at, parts_at, coordinate_at}
 
 -- frmsizecod of a frame of so many words: at 48 and 32 kHz the even one of the two (A/52 Table 5.18; the choice is this project's own)

@@ -11,7 +11,7 @@ use Rattle.ac_record.specs.Frames.{FrameCodes}
 use Rattle.ac_record.specs.Readings.{cell, IsReading}
 use Rattle.ac_record.specs.Records.{IsRecord, record_spelled}
 use Rattle.std.specs.Prelude.{slice_index}
-use Rattle.ac_sent.specs.declared.quantised.Quantised.{Quantised}
+use Rattle.ac_sent.specs.Values.{Quantised}
 use Rattle.ac_sent.specs.Asked.{IsQuantised, IsSizeCode}
 use Rattle.ac_sent.specs.Fields.{sent_block, exponents_at, pointer_at}
 use Rattle.ac_sent.specs.Packed.{sent_record, IsPacked}

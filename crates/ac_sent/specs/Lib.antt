@@ -2,3 +2,4 @@ pub mod Asked
 pub mod Fields
 pub mod Laws
 pub mod Packed
+pub mod Values

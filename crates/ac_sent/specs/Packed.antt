@@ -12,7 +12,7 @@ use Rattle.ac_record.specs.Order.{order_of, over_channels}
 use Rattle.ac_record.specs.Readings.{cell}
 use Rattle.ac_record.specs.Records.{BlockRecord, Record, record_spelled, StandsFor}
 use Rattle.ac_frame.specs.Plain.{all_part}
-use Rattle.ac_sent.specs.declared.quantised.Quantised.{Quantised}
+use Rattle.ac_sent.specs.Values.{Quantised}
 use Rattle.ac_sent.specs.Asked.{IsSizeCode}
 use Rattle.ac_sent.specs.Fields.{sent_head, sent_block, pointer_at, parts_at}
 use Rattle.ac_frame.specs.Padding.{aux_bits}
