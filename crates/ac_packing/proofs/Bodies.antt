@@ -18,7 +18,7 @@ use Rattle.ac_sent.specs.Values.{Quantised}
 use Rattle.ac_sent.specs.Asked.{IsQuantised, IsSizeCode}
 use Rattle.ac_sent.specs.Fields.{sent_head, sent_fields, sent_block, parts_at}
 use Rattle.ac_sent.specs.Packed.{sent_mantissas, sent_part, sent_record}
-use Rattle.ac_frame.specs.Padding.{skip, to_skip, aux_bits}
+use Rattle.ac_sent.specs.Padding.{skip, to_skip, aux_bits}
 use Rattle.ac_sent.proofs.Blocks.{block_is}
 use Rattle.ac_sent.proofs.Earlier.{sent_before, before_none, before_more}
 use Rattle.ac_sent.proofs.Heads.{head_lawful}

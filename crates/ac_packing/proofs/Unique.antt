@@ -10,7 +10,7 @@ use Rattle.ac_crc.specs.Remainder.{IsRemainder}
 use Rattle.ac_crc.proofs.Remainders.{trails, one_trailing, one_leading, last_bit_turned}
 use Rattle.ac_record.specs.Laws.{AreBytes}
 use Rattle.ac_record.specs.Records.{record_spelled, words_of}
-use Rattle.ac_frame.specs.Plain.{front_part, all_part}
+use Rattle.ac_record.specs.CrcParts.{front_part, all_part}
 use Rattle.ac_record.proofs.Leading.{head_is}
 use Rattle.ac_sent.specs.Values.{Quantised}
 use Rattle.ac_sent.specs.Asked.{IsQuantised, IsSizeCode}

@@ -6,7 +6,7 @@ ghost use Rattle.ac_record.specs.Records.{block_spelled, blocks_spelled, record_
 ghost use Rattle.ac_sent.specs.Asked.{IsQuantised, IsSizeCode};
 ghost use Rattle.ac_sent.specs.Fields.{sent_head, sent_block, parts_at, skip_at};
 ghost use Rattle.ac_sent.specs.Packed.{sent_part, sent_record};
-ghost use Rattle.ac_frame.specs.Padding.{to_skip};
+ghost use Rattle.ac_sent.specs.Padding.{to_skip};
 ghost use Rattle.ac_packing.specs.Listing.{ArePointers};
 
 use crate::mantissas::{MOST, list_block};

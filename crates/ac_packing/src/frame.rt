@@ -5,7 +5,7 @@ ghost use Rattle.ac_crc.specs.Remainder.{IsRemainder};
 ghost use Rattle.ac_sent.specs.Asked.{IsQuantised, IsSizeCode};
 ghost use Rattle.ac_sent.specs.Fields.{parts_at};
 ghost use Rattle.ac_sent.specs.Packed.{IsPacked};
-ghost use Rattle.ac_frame.specs.Padding.{to_skip};
+ghost use Rattle.ac_sent.specs.Padding.{to_skip};
 ghost use Rattle.ac_packing.specs.Listing.{ArePointers};
 
 use crate::body::write_body;

@@ -1,6 +1,6 @@
 //! Where the bits go that the fields of a frame leave over (A/52 5.4.3.58 to 5.4.3.60, 5.4.4.1).
 ghost use Rattle.std.specs.Prelude.{◌≡◌, ◌≤◌, ◌==◌, if◌then◌else◌, None};
-ghost use Rattle.ac_frame.specs.Padding.{to_skip, skip};
+ghost use Rattle.ac_sent.specs.Padding.{to_skip, skip};
 
 use ac_base::{TAIL_BITS, front_words};
 
@@ -21,7 +21,7 @@ pub fn bits_to_skip(words: u16, total: u32, last: u32) -> u32
 }
 
 /// The skipl of a block where the skip fields take `x` bits in all, the last blocks first.
-#[tactic(auto, unfolding(ac_frame::specs::Padding::skip, ac_frame::specs::Padding::skipl_of))]
+#[tactic(auto, unfolding(ac_sent::specs::Padding::skip, ac_sent::specs::Padding::skipl_of))]
 fn skipl(x: u32, block: u32) -> Option<u16>
     requires { block ≤ 5 }
     ensures { result ≡ skip x block }

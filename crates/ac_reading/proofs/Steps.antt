@@ -22,7 +22,7 @@ use Rattle.ac_crc.specs.Remainder.{IsRemainder}
 use Rattle.ac_record.specs.Channels.{is_in}
 use Rattle.ac_record.specs.Order.{with_coupling, over_bins, over_channels}
 use Rattle.ac_record.specs.Readings.{cell}
-use Rattle.ac_frame.specs.Plain.{front_part, all_part}
+use Rattle.ac_record.specs.CrcParts.{front_part, all_part}
 use Rattle.ac_reading.specs.Cells.{IsRow, IsPut, StaysBut}
 use Rattle.ac_reading.proofs.Flat.{bins_more, bins_flat, channel_more, channels_same}
 use Rattle.ac_reading.proofs.Orders.{order_step}

@@ -11,7 +11,7 @@ use Rattle.ac_rows.specs.HeadRows.{whole_head, head_fields}
 use Rattle.ac_codec.specs.Codec.{pair}
 use Rattle.ac_record.specs.Frames.{FrameCodes}
 use Rattle.ac_record.specs.Records.{Record, blocks_spelled, record_spelled, StandsFor, words_of}
-use Rattle.ac_frame.specs.Plain.{front_part, all_part}
+use Rattle.ac_record.specs.CrcParts.{front_part, all_part}
 use Rattle.ac_record.specs.Readings.{IsReading}
 use Rattle.ac_record.specs.Faults.{words_at, frame_at, room_at, FieldsRefuse, FieldIs}
 use Rattle.ac_codec.specs.declared.refused.Refused.{Refused}

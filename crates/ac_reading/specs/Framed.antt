@@ -6,7 +6,7 @@ use Rattle.ac_rows.specs.HeadRows.{whole_head}
 use Rattle.ac_record.specs.Frames.{FrameCodes}
 use Rattle.ac_record.specs.declared.codes.FrameFault.{FrameFault}
 use Rattle.ac_record.specs.declared.codes.FrameFault.TheVariants.{Short, BadCrc1, BadCrc2, Changed, Field}
-use Rattle.ac_frame.specs.Plain.{front_part, all_part}
+use Rattle.ac_record.specs.CrcParts.{front_part, all_part}
 use Rattle.ac_record.specs.Faults.{IsThere, FrontIs, AllIs, words_at}
 use Rattle.ac_reading.specs.Begun.{IsBegun}
 

@@ -15,7 +15,7 @@ use Rattle.ac_rows.proofs.HeadSound.{whole_head_sound}
 use Rattle.ac_record.specs.declared.codes.FrameFault.{FrameFault}
 use Rattle.ac_record.specs.declared.codes.FrameFault.TheVariants.{Short, BadCrc1, BadCrc2, Changed, Field}
 use Rattle.ac_record.specs.Records.{Record, blocks_spelled, tail_spelled, record_spelled, AreBlocks, words_of, StandsFor}
-use Rattle.ac_frame.specs.Plain.{front_part, all_part}
+use Rattle.ac_record.specs.CrcParts.{front_part, all_part}
 use Rattle.ac_record.specs.Faults.{size_refusal, words_at, frame_at, room_at, IsThere, FrontIs, AllIs, IsShort, IsFault}
 use Rattle.ac_record.specs.Laws.{AreBytes, OneRecord, FramesHaveNoFault, OneFault}
 use Rattle.ac_record.proofs.Blocks.{one_blocks}

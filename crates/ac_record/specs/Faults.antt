@@ -20,7 +20,7 @@ use Rattle.ac_record.specs.declared.codes.FrameFault.TheVariants.{Short, BadCrc1
 use Rattle.ac_record.specs.Held.{pointer_in}
 use Rattle.ac_record.specs.Order.{in_order}
 use Rattle.ac_record.specs.Records.{BlockRecord, block_spelled, IsBlock}
-use Rattle.ac_frame.specs.Plain.{front_part, all_part}
+use Rattle.ac_record.specs.CrcParts.{front_part, all_part}
 
 -- ---- the size, from the first six bytes (A/52 5.3.1, 5.4.1, 5.4.2.1)
 

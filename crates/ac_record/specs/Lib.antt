@@ -1,3 +1,4 @@
+pub mod CrcParts
 pub mod Channels
 pub mod Empty
 pub mod Faults

@@ -10,7 +10,7 @@ use Rattle.ac_rows.specs.declared.head.Head.{Head}
 use Rattle.ac_rows.specs.HeadRows.{whole_head}
 use Rattle.ac_rows.specs.BlockRows.{whole_block}
 use Rattle.ac_rows.specs.Filled.{filled_of}
-use Rattle.ac_frame.specs.Plain.{front_part, all_part}
+use Rattle.ac_record.specs.CrcParts.{front_part, all_part}
 use Rattle.ac_record.specs.Held.{pointer_in}
 use Rattle.ac_record.specs.Order.{in_order}
 

@@ -24,7 +24,7 @@ use Rattle.ac_rows.specs.BlockRows.{shared, codes, exponents, allocation, block_
 use Rattle.ac_sent.specs.Values.{Quantised}
 use Rattle.ac_sent.specs.Asked.{IsQuantised}
 use Rattle.ac_sent.specs.Fields.{sent_head, sent_fields, sent_block, code_at, exponents_at, coordinate_at, low_number, rematrixed, skip_at, parts_at}
-use Rattle.ac_frame.specs.Padding.{skip, to_skip}
+use Rattle.ac_sent.specs.Padding.{skip, to_skip}
 use Rattle.ac_sent.proofs.Padding.{skip_small}
 use Rattle.ac_sent.proofs.Spans.{is_span, span_full, span_next, span_low, full_coded, coupling_coded, low_coded, full_two}
 use Rattle.ac_sent.proofs.FirstRows.{start_lawful, strategy_lawful, rest_lawful}

@@ -14,12 +14,12 @@ use Rattle.ac_rows.specs.HeadRows.{layout, layout_rows, service, head_fields, wh
 use Rattle.ac_rows.specs.BlockRows.{block_fields, whole_block}
 use Rattle.ac_rows.specs.Filled.{listed}
 use Rattle.ac_record.specs.Records.{BlockRecord, block_spelled, blocks_spelled, record_spelled, words_of, StandsFor}
-use Rattle.ac_frame.specs.Plain.{front_part, all_part}
+use Rattle.ac_record.specs.CrcParts.{front_part, all_part}
 use Rattle.ac_sent.specs.Values.{Quantised}
 use Rattle.ac_sent.specs.Asked.{IsQuantised, IsSizeCode}
 use Rattle.ac_sent.specs.Fields.{sent_head, parts_at}
 use Rattle.ac_sent.specs.Packed.{sent_part, sent_record}
-use Rattle.ac_frame.specs.Padding.{aux_bits}
+use Rattle.ac_sent.specs.Padding.{aux_bits}
 use Rattle.ac_sent.proofs.SentRecord.{is_record}
 use Rattle.ac_sent.proofs.Sizes.{has_size}
 

@@ -5,7 +5,7 @@ use Rattle.ac_base.specs.Sizes.{front_room}
 use Rattle.ac_crc.specs.Remainder.{IsRemainder}
 use Rattle.ac_crc.proofs.Remainders.{trails, one_trailing, one_leading}
 use Rattle.ac_record.specs.Records.{record_spelled, IsRecord}
-use Rattle.ac_frame.specs.Plain.{front_part, all_part}
+use Rattle.ac_record.specs.CrcParts.{front_part, all_part}
 use Rattle.ac_record.proofs.Leading.{head_is}
 use Rattle.ac_sent.specs.Values.{Quantised}
 use Rattle.ac_sent.specs.Asked.{IsQuantised}

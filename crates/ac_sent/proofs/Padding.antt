@@ -3,7 +3,7 @@ use Rattle.std.proofs.Common.{◌≡◌, ℕ, zero, suc, ◌+◌, ◌-◌, ◌*�
 use Rattle.std.specs.Prelude.{Some}
 use Rattle.std.proofs.lemmas.Bool.{cases_lt}
 use Rattle.ac_base.specs.Sizes.{front_room, end_room}
-use Rattle.ac_frame.specs.Padding.{skip, skipl_of, skip_bits, skipped, to_skip}
+use Rattle.ac_sent.specs.Padding.{skip, skipl_of, skip_bits, skipped, to_skip}
 use Rattle.ac_sent.specs.Laws.{PaddingKeepsRooms}
 
 -- the bits of the skip field of a block that is to take n bits

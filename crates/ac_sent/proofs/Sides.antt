@@ -25,7 +25,7 @@ use Rattle.ac_syntax.proofs.BlockSide.{first_is_side, later_is_side}
 use Rattle.ac_sent.specs.Values.{Quantised}
 use Rattle.ac_sent.specs.Asked.{IsQuantised}
 use Rattle.ac_sent.specs.Fields.{when, sent_head, sent_fields, sent_block, skip_at}
-use Rattle.ac_frame.specs.Padding as padding
+use Rattle.ac_sent.specs.Padding as padding
 use Rattle.ac_sent.proofs.SharedRows.{channel_is_coupled}
 use Rattle.ac_sent.proofs.Earlier.{sent_before, before_none, before_more, block_first, block_later, first_block}
 use Rattle.ac_sent.proofs.Coupling.{coupling_sent, none_holds, when_clear}

@@ -20,7 +20,7 @@ use Rattle.ac_sent.specs.Asked.{IsQuantised}
 use Rattle.ac_sent.specs.Fields.{sent_head, sent_block, pointer_at, parts_at}
 use Rattle.ac_sent.specs.Laws.{KeepsRooms, SentHasSize}
 use Rattle.ac_sent.specs.Packed.{sent_mantissas, sent_part, sent_record}
-use Rattle.ac_frame.specs.Padding as padding
+use Rattle.ac_sent.specs.Padding as padding
 use Rattle.ac_sent.proofs.Padding.{keeps_rooms}
 use Rattle.ac_sent.proofs.Earlier.{sent_before, before_none, before_more}
 use Rattle.ac_sent.proofs.Heads.{head_lawful}

@@ -17,7 +17,7 @@ use Rattle.ac_rows.specs.Blocks.{Block}
 use Rattle.ac_rows.specs.declared.head.Head.{Head}
 use Rattle.ac_rows.specs.Filled.{listed}
 use Rattle.ac_sent.specs.Values.{Quantised}
-use Rattle.ac_frame.specs.Padding.{skip, to_skip}
+use Rattle.ac_sent.specs.Padding.{skip, to_skip}
 
 -- a value that is there where the test holds
 abbrev pub when : {A : Type 0} → Bool → A → Option A

@@ -15,7 +15,7 @@ use Rattle.ac_sent.specs.Values.{Quantised}
 use Rattle.ac_sent.specs.Asked.{IsQuantised, IsSizeCode}
 use Rattle.ac_sent.specs.Fields.{sent_block, exponents_at, pointer_at}
 use Rattle.ac_sent.specs.Packed.{sent_record, IsPacked}
-use Rattle.ac_frame.specs.Padding.{skip, skip_bits, skipped, to_skip, aux_bits, left_over}
+use Rattle.ac_sent.specs.Padding.{skip, skip_bits, skipped, to_skip, aux_bits, left_over}
 
 -- what is sent is a record, whatever the CRC words are
 abbrev pub SentIsRecord : Type 0

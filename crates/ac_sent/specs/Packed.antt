@@ -11,11 +11,11 @@ use Rattle.ac_rows.specs.Filled.{listed}
 use Rattle.ac_record.specs.Order.{order_of, over_channels}
 use Rattle.ac_record.specs.Readings.{cell}
 use Rattle.ac_record.specs.Records.{BlockRecord, Record, record_spelled, StandsFor}
-use Rattle.ac_frame.specs.Plain.{all_part}
+use Rattle.ac_record.specs.CrcParts.{all_part}
 use Rattle.ac_sent.specs.Values.{Quantised}
 use Rattle.ac_sent.specs.Asked.{IsSizeCode}
 use Rattle.ac_sent.specs.Fields.{sent_head, sent_block, pointer_at, parts_at}
-use Rattle.ac_frame.specs.Padding.{aux_bits}
+use Rattle.ac_sent.specs.Padding.{aux_bits}
 
 -- the mantissas of a block in order (A/52 5.3.3)
 abbrev pub sent_mantissas : Quantised → ℕ → List Coded

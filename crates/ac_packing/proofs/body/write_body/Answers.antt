@@ -1,6 +1,6 @@
 use Rattle.std.proofs.Common.{◌≡◌, ◌-◌, ◌*◌, ◌∙◌, length, ap, arith, false}
 use Rattle.ac_sent.specs.Fields.{parts_at}
-use Rattle.ac_frame.specs.Padding.{aux_bits}
+use Rattle.ac_sent.specs.Padding.{aux_bits}
 use Rattle.ac_packing.proofs.Bodies.{head_same, blocks_same, head_sent, pieces_long, all_written, front_long}
 use Rattle.ac_packing.proofs.body.write_body.Goals as goal
 
