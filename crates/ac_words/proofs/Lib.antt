@@ -1,4 +1,6 @@
 pub mod Numbers
 pub mod RateTexts
-pub mod Pairs
+pub mod InPairs
+pub mod EachOption
+pub mod Said
 pub mod Split

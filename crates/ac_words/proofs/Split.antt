@@ -5,7 +5,7 @@ use Rattle.std.proofs.lemmas.List.{length-append}
 use Rattle.std.proofs.Math.Seq.{drop-append_seam, take-append_seam}
 use Rattle.ac_words.specs.Grammar.{EncodePairs, Means, InGrammar, Text, encode, LastWords, is_name, last_words, WordsMeanOneThing}
 use Rattle.ac_words.specs.declared.meaning.Options.{Options}
-use Rattle.ac_words.proofs.Pairs.{pairs_one}
+use Rattle.ac_words.proofs.Said.{pairs_one}
 
 record SameParts (n₁ n₂ : Text) (m₁ m₂ t₁ t₂ : List Text) : Type 0 where
   name : n₁ ≡ n₂

@@ -3,7 +3,7 @@
 -- All of it is this project's own but the rates, which are those of A/52 Table 5.18.
 use Rattle.std.specs.Fmt.{decimal}
 use Rattle.std.specs.List.{list_all, list_any}
-use Rattle.std.specs.Prelude.{◌≡◌, ℕ, Bool, not, true, nat_lt, ◌||◌, ◌&&◌, List, [], ◌∷◌, ◌++◌, length, Option, None, find, option_map, MatchOption, IsTrue, codes}
+use Rattle.std.specs.Prelude.{◌≡◌, ◌≤◌, ℕ, Bool, not, true, nat_lt, ◌||◌, ◌&&◌, List, [], ◌∷◌, ◌++◌, length, Option, Some, None, find, option_map, MatchOption, IsTrue, codes}
 use Rattle.std.specs.Str.{bytes_eq}
 use Rattle.std.specs.Str.Parse.{starts_with_minus}
 use Rattle.ac_base.specs.Rates.{is_rate}
@@ -44,20 +44,30 @@ all_known known = list_all (λ p. list_any (λ name. bytes_eq p.0 name) known)
 
 -- ---- the options of encode
 
--- `--rate` alone so far
 abbrev pub encode_known : List Text
-encode_known = codes "rate" ∷ []
+encode_known = codes "rate" ∷ codes "nodes" ∷ codes "bw" ∷ []
 
 -- the text is a rate of A/52 Table 5.18 in decimal digits, without a sign or a leading zero; a rate is required
 abbrev pub RateOf : Option Text → ℕ → Type 0
 RateOf value rate = MatchOption value ⊥ (λ text. (text ≡ decimal rate) × IsTrue (is_rate rate))
 
--- what the values say; an option that no words give yet has its default: 20,000 nodes, the bandwidth of the
--- rate, coupling by the rate
-pub record Says (rate : Option Text) (o : Options) : Type 0 where
+-- the text is this number in decimal digits, without a sign or a leading zero, and the number is at most so much
+abbrev pub IsNumber : ℕ → Text → ℕ → Type 0
+IsNumber most text n = (text ≡ decimal n) × (n ≤ most)
+
+-- how many nodes of the search: at most 10,000,000, and 20,000 where no value stands
+abbrev pub NodesOf : Option Text → ℕ → Type 0
+NodesOf value nodes = MatchOption value (nodes ≡ 20000) (λ text. IsNumber 10000000 text nodes)
+
+-- chbwcod, which is at most 60 (A/52 5.4.3.24), where a value stands
+abbrev pub BandwidthOf : Option Text → Option ℕ → Type 0
+BandwidthOf value bw = MatchOption value (bw ≡ None) (λ text. (code : ℕ) × (bw ≡ Some code) × IsNumber 60 text code)
+
+-- what the values say; no words give the coupling yet, which goes by the rate
+pub record Says (rate nodes bw : Option Text) (o : Options) : Type 0 where
   pub rate_is : RateOf rate o.rate
-  pub nodes_is : o.nodes ≡ 20000
-  pub bw_is : o.bw ≡ None
+  pub nodes_is : NodesOf nodes o.nodes
+  pub bw_is : BandwidthOf bw o.bw
   pub couple_is : o.couple ≡ Auto
 
 -- these words are pairs that give these options
@@ -66,7 +76,7 @@ pub record EncodePairs (ws : List Text) (o : Options) : Type 0 where
   pub words : ws ≡ spelled pairs
   pub known : all_known encode_known pairs ≡ true
   pub once : none_twice pairs ≡ true
-  pub says : Says (value_in (codes "rate") pairs) o
+  pub says : Says (value_in (codes "rate") pairs) (value_in (codes "nodes") pairs) (value_in (codes "bw") pairs) o
 
 -- ---- the names
 

@@ -1,7 +1,9 @@
 -- What the grammar keeps of the options of the encoder, whatever the words: their bounds.
-use Rattle.std.specs.Prelude.{ℕ, ◌≤◌}
+use Rattle.std.specs.Prelude.{◌≤◌}
 use Rattle.std.specs.Option.{ForSome}
 use Rattle.ac_base.specs.Rates.{IsRate}
+use Rattle.ac_words.specs.declared.meaning.Command.{Command}
+use Rattle.ac_words.specs.declared.meaning.Command.TheVariants.{Encode}
 use Rattle.ac_words.specs.declared.meaning.Options.{Options}
 
 -- a rate of A/52 Table 5.18, at most 10,000,000 nodes of the search (this project's own), and chbwcod at most 60 (A/52 5.4.3.24)
@@ -9,3 +11,7 @@ pub record AreOptions (o : Options) : Type 0 where
   pub rate : IsRate o.rate
   pub nodes : o.nodes ≤ 10000000
   pub bandwidth : ForSome o.bw (λ bw. bw ≤ 60)
+
+-- the options of the command are within their bounds
+abbrev pub IsWithinBounds : Command → Type 0
+IsWithinBounds (Encode o) = AreOptions o

@@ -8,6 +8,7 @@ mod fault;
 mod laws;
 mod meaning;
 mod number;
+mod pairs;
 mod read;
 
 pub use fault::WordsFault;

@@ -21,9 +21,9 @@ pub enum Command {
 pub struct Options {
     /// The bit rate in kilobits a second, one of the 19 of A/52 table 5.18.
     pub rate: u16,
-    /// How many nodes the search may open in a frame.
+    /// How many nodes the search may open in a frame: at most 10,000,000, and 20,000 where it isn't given.
     pub nodes: u32,
-    /// The bandwidth code chbwcod (A/52 5.4.3.24), 0 to 60, where it is given.
+    /// The bandwidth code chbwcod (A/52 5.4.3.24), 0 to 60, where it is given. None: by the bit rate.
     pub bw: Option<u8>,
     /// How the channels are coupled.
     pub couple: Couple,

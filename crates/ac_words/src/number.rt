@@ -1,6 +1,6 @@
-ghost use Rattle.std.specs.Prelude.{◌≡◌, ◌≢◌, ℕ, ◌<◌, ◌^◌, MatchOption, Some, IsTrue};
+ghost use Rattle.std.specs.Prelude.{◌≡◌, ◌≢◌, ℕ, ◌<◌, ◌≤◌, ◌^◌, MatchOption, Some, IsTrue};
 ghost use Rattle.std.specs.Fmt.{decimal};
-ghost use Rattle.ac_words.specs.Grammar.{RateOf};
+ghost use Rattle.ac_words.specs.Grammar.{IsNumber, RateOf};
 ghost use Rattle.ac_base.specs.Rates.{is_rate};
 ghost use Rattle.ac_words.specs.Digits.{is_bare_number};
 
@@ -52,6 +52,45 @@ pub(crate) fn rate_of(text: &str) -> Option<u16>
 {
     match written(text) {
         Some(number) => as_rate(number),
+        None => None,
+    }
+}
+
+/// The number that the text writes, where it is at most `most`.
+fn number_to(most: u64, text: &str) -> Option<u64>
+    ensures { MatchOption result
+        ((n : ℕ) → ¬ IsNumber most text.now n)
+        (IsNumber most text.now) }
+{
+    let Some(number) = written(text) else {
+        return None;
+    };
+    if number > most {
+        return None;
+    }
+    Some(number)
+}
+
+/// The number of nodes that the text writes.
+pub(crate) fn nodes_of(text: &str) -> Option<u32>
+    ensures { MatchOption result
+        ((n : ℕ) → ¬ IsNumber 10000000 text.now n)
+        (IsNumber 10000000 text.now) }
+{
+    match number_to(10_000_000, text) {
+        Some(nodes) => Some(nodes as u32),
+        None => None,
+    }
+}
+
+/// The bandwidth code chbwcod that the text writes.
+pub(crate) fn bandwidth_of(text: &str) -> Option<u8>
+    ensures { MatchOption result
+        ((n : ℕ) → ¬ IsNumber 60 text.now n)
+        (IsNumber 60 text.now) }
+{
+    match number_to(60, text) {
+        Some(bw) => Some(bw as u8),
         None => None,
     }
 }

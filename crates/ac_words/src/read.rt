@@ -1,13 +1,13 @@
 ghost use Rattle.std.specs.Prelude.{◌≡◌, ◌≢◌, ◌<◌, [], ◌∷◌, ◌++◌, length, map, string_bytes, not, MatchOption, IfOk, IsOk, Err, ℕ};
 ghost use Rattle.std.specs.Str.Parse.{starts_with_minus};
-ghost use Rattle.ac_words.specs.Grammar.{is_name as is_name_text, are_names as are_name_texts, last_words, EncodePairs, Means, InGrammar};
+ghost use Rattle.ac_words.specs.Grammar.{is_name as is_name_text, are_names as are_name_texts, last_words, Means, InGrammar};
 ghost use Rattle.ac_words.specs.Asked.{texts_of, meaning_of, GivesCommand, GivesNames};
-ghost use Rattle.ac_words.specs.declared.meaning.Options.{Options};
+ghost use Rattle.ac_words.specs.Lawful.{IsWithinBounds};
 ghost use Rattle.ac_words.specs.declared.fault.WordsFault.TheVariants.{Usage, NoMemory};
 
 use crate::fault::WordsFault;
-use crate::meaning::{Command, Couple, Names, Options};
-use crate::number::rate_of;
+use crate::meaning::{Command, Names};
+use crate::pairs::encode_options;
 use std::alloc::Global;
 
 /// The words in three parts.
@@ -16,13 +16,6 @@ struct Parts<'a> {
     command: &'a str,
     pairs: &'a [String],
     names: Names<'a>,
-}
-
-/// An option and its value.
-#[derive(Clone, Copy)]
-struct Pair<'a> {
-    option: &'a str,
-    value: &'a str,
 }
 
 /// The words' meaning.
@@ -64,43 +57,6 @@ fn parts_of<'a>(words: &'a [String]) -> Option<Parts<'a>>
         }),
         _ => None,
     }
-}
-
-/// The one pair; nothing where the words are not two.
-fn only_pair<'a>(words: &'a [String]) -> Option<Pair<'a>>
-    ensures { MatchOption result (length words.entry.now ≢ 2)
-        (λ p. map string_bytes words.entry.now ≡ p.option.now ∷ p.value.now ∷ []) }
-{
-    match words {
-        [option, value] => Some(Pair {
-            option: option.as_str(),
-            value: value.as_str(),
-        }),
-        _ => None,
-    }
-}
-
-/// The options of encode that the words between the command and the names give.
-fn encode_options(words: &[String]) -> Option<Options>
-    ensures { MatchOption result
-        ((o : Options) → EncodePairs (map string_bytes words.now) o → ⊥)
-        (EncodePairs (map string_bytes words.now)) }
-{
-    let Some(pair) = only_pair(words) else {
-        return None;
-    };
-    if pair.option != "--rate" {
-        return None;
-    }
-    let Some(rate) = rate_of(pair.value) else {
-        return None;
-    };
-    Some(Options {
-        rate,
-        nodes: 20_000,
-        bw: None,
-        couple: Couple::Auto,
-    })
 }
 
 /// What the words mean, where they are in the grammar.
@@ -154,6 +110,7 @@ pub fn names<'a>(alloc: Global, words: &'a [String]) -> Result<Names<'a>, WordsF
 /// never comes.
 pub fn command(alloc: Global, words: &[String]) -> Result<Command, WordsFault>
     ensures value { IfOk result (GivesCommand (map string_bytes words.now)) }
+    ensures lawful { IfOk result IsWithinBounds }
     ensures cause { result ≡ Err Usage → ¬ InGrammar (map string_bytes words.now) }
     ensures refused { ¬ InGrammar (map string_bytes words.now) → result ≡ Err Usage }
     ensures complete { InGrammar (map string_bytes words.now) → IsOk result }

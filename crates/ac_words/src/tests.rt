@@ -65,6 +65,123 @@ fn command_words(rt: HostRuntime) -> Result<(), Fail> {
     Ok(())
 }
 
+/// `encode`, these pairs, and names behind them.
+fn line_of(rt: &HostRuntime, pairs: &[&str]) -> Result<Vec<String>, AllocError> {
+    made(rt, || {
+        let mut words = Vec::with_capacity(rt.alloc(), 4)?;
+        words.push(String::from_str(rt.alloc(), "encode")?)?;
+        for word in pairs {
+            words.push(String::from_str(rt.alloc(), word)?)?;
+        }
+        for name in ["a", "b", "c"] {
+            words.push(String::from_str(rt.alloc(), name)?)?;
+        }
+        Ok(words)
+    })
+}
+
+/// Options with coupling by the rate.
+fn options_of(rate: u16, nodes: u32, bw: Option<u8>) -> Options {
+    Options {
+        rate,
+        nodes,
+        bw,
+        couple: Couple::Auto,
+    }
+}
+
+#[test]
+fn pairs_give_options(rt: HostRuntime) -> Result<(), Fail> {
+    let lines: [(&[&str], Options); 12] = [
+        (&["--rate", "32"], options_of(32, 20_000, None)),
+        (&["--rate", "32", "--nodes", "0"], options_of(32, 0, None)),
+        (
+            &["--rate", "32", "--nodes", "20000"],
+            options_of(32, 20_000, None),
+        ),
+        (
+            &["--nodes", "10000000", "--rate", "640"],
+            options_of(640, 10_000_000, None),
+        ),
+        (
+            &["--rate", "192", "--bw", "0"],
+            options_of(192, 20_000, Some(0)),
+        ),
+        (
+            &["--bw", "60", "--rate", "192"],
+            options_of(192, 20_000, Some(60)),
+        ),
+        (
+            &["--rate", "96", "--nodes", "7", "--bw", "9"],
+            options_of(96, 7, Some(9)),
+        ),
+        (
+            &["--rate", "96", "--bw", "9", "--nodes", "7"],
+            options_of(96, 7, Some(9)),
+        ),
+        (
+            &["--nodes", "7", "--rate", "96", "--bw", "9"],
+            options_of(96, 7, Some(9)),
+        ),
+        (
+            &["--nodes", "7", "--bw", "9", "--rate", "96"],
+            options_of(96, 7, Some(9)),
+        ),
+        (
+            &["--bw", "9", "--rate", "96", "--nodes", "7"],
+            options_of(96, 7, Some(9)),
+        ),
+        (
+            &["--bw", "9", "--nodes", "7", "--rate", "96"],
+            options_of(96, 7, Some(9)),
+        ),
+    ];
+    for (pairs, options) in lines {
+        let words = line_of(&rt, pairs)?;
+        assert_eq!(rt;
+            command(rt.alloc(), &words),
+            Ok(Command::Encode(options)),
+            "{pairs:?}"
+        );
+        assert_eq!(rt; names(rt.alloc(), &words)?.report, "c");
+    }
+    Ok(())
+}
+
+#[test]
+fn pairs_are_refused(rt: HostRuntime) -> Result<(), Fail> {
+    let lines: [&[&str]; 24] = [
+        &[],
+        &["--nodes", "7"],
+        &["--bw", "9", "--nodes", "7"],
+        &["--rate", "192", "--nodes", "10000001"],
+        &["--rate", "192", "--nodes", "4294967296"],
+        &["--rate", "192", "--nodes", "18446744073709551616"],
+        &["--rate", "192", "--nodes", "01"],
+        &["--rate", "192", "--nodes", "00"],
+        &["--rate", "192", "--nodes", "+1"],
+        &["--rate", "192", "--nodes", "-1"],
+        &["--rate", "192", "--nodes", ""],
+        &["--rate", "192", "--bw", "61"],
+        &["--rate", "192", "--bw", "256"],
+        &["--rate", "192", "--bw", "00"],
+        &["--rate", "192", "--bw", "9 "],
+        &["--rate", "192", "--bw"],
+        &["--bw", "--rate", "192"],
+        &["--rate", "192", "--bw=3"],
+        &["--rate", "192", "--rate", "192"],
+        &["--rate", "192", "--nodes", "7", "--nodes", "7"],
+        &["--bw", "3", "--rate", "192", "--bw", "4"],
+        &["--rate", "192", "--nodes", "7", "--bw", "9", "--nodes", "7"],
+        &["--rate", "192", "--couple", "auto"],
+        &["--rate", "192", "--Bw", "3"],
+    ];
+    for pairs in lines {
+        assert!(rt; are_refused(&rt, &line_of(&rt, pairs)?), "{pairs:?}");
+    }
+    Ok(())
+}
+
 #[test]
 fn a_hyphen_alone_is_a_name(rt: HostRuntime) -> Result<(), Fail> {
     let words = words_of(&rt, &["encode", "--rate", "32", "-", "-", "-"])?;
