@@ -1,1 +1,4 @@
+pub mod Asked
+pub mod Laws
+pub mod Rows
 pub mod Values

@@ -2,7 +2,7 @@
 -- each run the greatest exponents that its kind can spell, and at each bin the code of its coefficient by its exponent and its pointer
 -- (A/52 8.2.7 to 8.2.12; that the greatest exponents are taken is this project's own). x c b k is the coefficient of coded channel c
 -- in block b at bin k.
-use Rattle.std.specs.Prelude.{ℕ, ◌&&◌, ◌==◌, nat_lt, Bool, if◌then◌else◌, ℤ, List, [], slice_index_or}
+use Rattle.std.specs.Prelude.{ℕ, ◌&&◌, ◌==◌, nat_lt, Bool, if◌then◌else◌, ℤ, pos, List, [], slice_index_or}
 use Rattle.ac_base.specs.declared.runs.Run.{Run}
 use Rattle.ac_base.specs.declared.shapes.Shape.{Shape}
 use Rattle.ac_base.specs.Words.{runs_of, word_of}
@@ -24,10 +24,17 @@ use Rattle.ac_sent.specs.Values.{Quantised}
 abbrev pub Coefficients : Type 0
 Coefficients = ℕ → ℕ → ℕ → ℤ
 
--- an array by coded channel, block and bin: f at the bins of each coded channel's span, and 0 elsewhere
+-- those of an array by coded channel, block and bin
+abbrev pub entry : List (List (List ℤ)) → Coefficients
+entry coefs c b k = slice_index_or (slice_index_or (slice_index_or coefs c []) b []) k (pos 0)
+
+-- a row of an array by coded channel, block and bin: f at the bins of the channel's span, and 0 elsewhere
+abbrev pub row_at : Shape → (ℕ → ℕ → ℕ → ℕ) → ℕ → ℕ → List ℕ
+row_at shape f c b = listed 256 0 (λ k. if nat_lt c (channels shape) && is_in (channel_span shape c) k then f c b k else 0)
+
+-- the array: f at the bins of each coded channel's span, and 0 elsewhere
 abbrev pub in_spans : Shape → (ℕ → ℕ → ℕ → ℕ) → List (List (List ℕ))
-in_spans shape f = listed 7 0 (λ c. listed 6 0 (λ b. listed 256 0 (λ k.
-    if nat_lt c (channels shape) && is_in (channel_span shape c) k then f c b k else 0)))
+in_spans shape f = listed 7 0 (λ c. listed 6 0 (row_at shape f c))
 
 -- the raw exponents of a coded channel, by block and bin (A/52 8.2.7)
 abbrev pub raw_rows : Coefficients → ℕ → List (List ℕ)

@@ -1,0 +1,9 @@
+pub mod Agreeing
+pub mod CodesOfPointers
+pub mod Entries
+pub mod GreatestRows
+pub mod OneFrame
+pub mod Parts
+pub mod RunsOfBlocks
+pub mod Values
+pub mod Written

@@ -1,0 +1,35 @@
+-- Laws of frames by their coefficients.
+use Rattle.std.proofs.Common.{◌≡◌, ℕ, ◌*◌, ◌<◌, Bool, List, [], length, slice_index_or, refl, ap, ap₂, sym, subst, ◌∙◌}
+use Rattle.ac_base.specs.declared.shapes.Shape.{Shape}
+use Rattle.ac_base.specs.Spans.{IsIn}
+use Rattle.ac_expo.specs.declared.word.Assign.{Assign}
+use Rattle.ac_expo.specs.Greatest.{exponent_of}
+use Rattle.ac_expo.specs.Raw.{channel_span, channels, raw_of}
+use Rattle.ac_joint.specs.declared.Coordinates.{Coordinates}
+use Rattle.ac_mant.specs.Quantiser.{code_of}
+use Rattle.ac_record.specs.Readings.{cell}
+use Rattle.ac_rows.specs.Filled.{listed}
+use Rattle.ac_sent.specs.Packed.{IsPacked}
+use Rattle.ac_sent.specs.Values.{Quantised}
+use Rattle.ac_sent.proofs.Back.{gives_back}
+use Rattle.ac_packing.proofs.Unique.{frame_size, one_frame}
+use Rattle.ac_coding.specs.Laws.{OneFrameOfCoefficients, ReadingGivesCoefficients, FrameIsBySpans, FrameHasSize, Agree}
+use Rattle.ac_coding.specs.Rows.{code_by}
+use Rattle.ac_coding.specs.Values.{Coefficients, in_spans, raw_rows, run_at, exponent_at, exponents, pointer_by, codes, values_of}
+use Rattle.ac_coding.proofs.Entries.{spans_same}
+use Rattle.ac_coding.proofs.Values.{are_quantised}
+
+-- the values have the shape
+pub shape_is : (shape : Shape) (x : Coefficients) (t : ℕ) (assign : Assign) (remat : List Bool) (coords : Coordinates) → (values_of shape x t assign remat coords).shape ≡ shape
+unfolding values_of
+shape_is shape x t assign remat coords = refl
+
+pub one : OneFrameOfCoefficients
+one shape x t assign remat coords frame other asked a b p q = one_frame (values_of shape x t assign remat coords) frame other (are_quantised shape x t assign remat coords asked) a b p q
+
+pub back : ReadingGivesCoefficients
+back shape x t assign remat coords frame f asked packed reading = gives_back (values_of shape x t assign remat coords) frame f (are_quantised shape x t assign remat coords asked) packed reading
+
+pub size : FrameHasSize
+size shape x t assign remat coords frame packed =
+    frame_size (values_of shape x t assign remat coords) frame packed ∙ ap (λ (s : Shape). 2 * s.words) (shape_is shape x t assign remat coords)
