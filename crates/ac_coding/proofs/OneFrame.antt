@@ -24,6 +24,15 @@ pub shape_is : (shape : Shape) (x : Coefficients) (t : ℕ) (assign : Assign) (r
 unfolding values_of
 shape_is shape x t assign remat coords = refl
 
+-- and the flags and the coordinates
+pub flags_are : (shape : Shape) (x : Coefficients) (t : ℕ) (assign : Assign) (remat : List Bool) (coords : Coordinates) → (values_of shape x t assign remat coords).remat ≡ remat
+unfolding values_of
+flags_are shape x t assign remat coords = refl
+
+pub coordinates_are : (shape : Shape) (x : Coefficients) (t : ℕ) (assign : Assign) (remat : List Bool) (coords : Coordinates) → (values_of shape x t assign remat coords).coords ≡ coords
+unfolding values_of
+coordinates_are shape x t assign remat coords = refl
+
 pub one : OneFrameOfCoefficients
 one shape x t assign remat coords frame other asked a b p q = one_frame (values_of shape x t assign remat coords) frame other (are_quantised shape x t assign remat coords asked) a b p q
 

@@ -1,26 +1,28 @@
 -- The values that are handed in are what a frame is asked to have.
-use Rattle.std.proofs.Common.{◌≡◌, ℕ, ◌+◌, ◌*◌, ◌^◌, ◌<◌, ◌≤◌, unsigned_abs, Bool, List, [], slice_index, slice_index_or, refl, ap, ap₂, sym, subst, ◌∙◌, arith}
+use Rattle.std.proofs.Common.{◌≡◌, ℕ, ◌+◌, ◌*◌, ◌^◌, ◌<◌, ◌≤◌, ℤ, unsigned_abs, Bool, List, [], slice_index, slice_index_or, refl, ap, ap₂, sym, subst, ◌∙◌, arith}
 use Rattle.std.specs.Prelude.{◌==◌}
 use Rattle.ac_base.specs.declared.shapes.Shape.{Shape}
 use Rattle.ac_base.specs.Fit.{FitIn, parts_of}
+use Rattle.ac_base.specs.Shape.{full_of, subbands}
 use Rattle.ac_base.specs.Spans.{IsIn}
 use Rattle.ac_base.specs.Words.{word_of}
 use Rattle.ac_alloc.specs.Codes.{encoder_params}
 use Rattle.ac_expo.specs.declared.word.Assign.{Assign}
 use Rattle.ac_expo.specs.Greatest.{IsSpellable}
-use Rattle.ac_expo.specs.Raw.{channel_span, channels}
+use Rattle.ac_expo.specs.Raw.{channel_span, channels, AreRaw, AreSmall}
 use Rattle.ac_joint.specs.declared.Coordinates.{Coordinates}
 use Rattle.ac_mant.specs.Quantiser.{IsCode, code_of}
 use Rattle.ac_record.specs.Readings.{cell}
 use Rattle.ac_cost.specs.Parts.{FitsAt}
 use Rattle.ac_cost.specs.Pointers.{pointers}
 use Rattle.ac_cost.specs.Runs.{IsAssignmentOf}
-use Rattle.ac_sent.specs.Asked.{IsQuantised}
+use Rattle.ac_sent.specs.Asked.{IsQuantised, IsSizeCode}
+use Rattle.ac_sent.specs.Fields.{coordinate_at}
 use Rattle.ac_sent.specs.Values.{Quantised}
 use Rattle.ac_coding.specs.Asked.{AreRawOf, IsAsked}
 use Rattle.ac_coding.specs.Laws.{ValuesAreQuantised}
 use Rattle.ac_coding.specs.Rows.{code_by, exponent_by}
-use Rattle.ac_coding.specs.Values.{Coefficients, row_at, in_spans, run_at, exponent_at, exponents, pointer_by, codes, values_of}
+use Rattle.ac_coding.specs.Values.{Coefficients, entry, row_at, in_spans, run_at, exponent_at, exponents, pointer_by, codes, values_of}
 use Rattle.ac_coding.proofs.CodesOfPointers.{pointer_small, code_is}
 use Rattle.ac_coding.proofs.Entries.{cell_of_spans, row_entry}
 use Rattle.ac_coding.proofs.GreatestRows.{exponents_are, exponents_row, exponents_cell, row_greatest, coded_below, rows_kept, pointers_are}
@@ -79,3 +81,25 @@ values_are shape x raw t assign remat coords exps others are is e f =
     let here : exps ≡ exponents shape x assign.w = e ∙ exponents_are shape x raw assign.w are is in
     let P : List (List (List ℕ)) → List (List (List ℕ)) → Quantised = λ a b. record { shape = shape; t = t; assign = assign; exps = a; codes = b; remat = remat; coords = coords } in
     ap₂ P here (f ∙ ap (λ (a : List (List (List ℕ))). in_spans shape (code_by shape x a t)) here)
+
+-- ---- what is asked, by lists of rows
+pub raw_by_rows : (shape : Shape) (coefs : List (List (List ℤ))) (raw : List (List (List ℕ))) → AreRaw shape coefs raw → AreRawOf shape (entry coefs) raw
+raw_by_rows shape coefs raw are c b k lt in_frame inside = are c lt b in_frame k inside
+
+pub small_by_rows : (shape : Shape) (coefs : List (List (List ℤ))) → AreSmall shape coefs → (c b k : ℕ) → c < channels shape → b < 6 → IsIn (channel_span shape c) k → unsigned_abs (entry coefs c b k) < 2 ^ 24
+small_by_rows shape coefs small c b k lt in_frame inside = small c lt b in_frame k inside
+
+pub asked_by_rows : (q : Quantised) (coefs : List (List (List ℤ))) (raw : List (List (List ℕ))) (t : ℕ) (assign : Assign) → AreSmall q.shape coefs → AreRaw q.shape coefs raw → t ≤ 1023 → IsAssignmentOf q.shape assign.w
+    → FitsAt q.shape raw t assign.w → ((code : ℕ) × IsSizeCode q.shape.fscod q.shape.words code)
+    → ((i k : ℕ) → i < full_of q.shape.acmod → k < subbands q.shape.couple → ((coordinate_at q i k).exp ≤ 15) × ((coordinate_at q i k).mant ≤ 15))
+    → IsAsked q.shape (entry coefs) t assign q.coords
+asked_by_rows q coefs raw t assign small are offset is fits sized coordinates = record {
+  small = small_by_rows q.shape coefs small;
+  raw = raw;
+  are_raw = raw_by_rows q.shape coefs raw are;
+  offset = offset;
+  assigned = is;
+  fits = fits;
+  sized = sized;
+  coordinates = coordinates;
+}
