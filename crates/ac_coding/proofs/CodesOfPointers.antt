@@ -49,10 +49,10 @@ code_is x e bap most below =
     picked (is_symmetric bap) (level_of (levels bap) z) (complement (width bap) (nearest (width bap) z)) (levels bap) (2 ^ width bap)
     (λ even. let few : bap ≤ 5 = grind (arith, nat_tests) in level_below (levels bap) z (levels_least bap few) small)
     (λ odd.
-      let many : 6 ≤ bap = grind (arith, nat_tests) in
-      let least = width_least bap many most in
-      let great = width_most bap most in
-      complement_low (width bap) (nearest (width bap) z) (omega (arith, least)) (nearest_low (width bap) z least great small) (nearest_high (width bap) z least great small))
+    let many : 6 ≤ bap = grind (arith, nat_tests) in
+    let least = width_least bap many most in
+    let great = width_most bap most in
+    complement_low (width bap) (nearest (width bap) z) (omega (arith, least)) (nearest_low (width bap) z least great small) (nearest_high (width bap) z least great small))
 
 -- ---- below an exponent that fits another does
 pub below_fits : (a e f : ℕ) → e ≤ f → a * 2 ^ f < 2 ^ 24 → a * 2 ^ e < 2 ^ 24

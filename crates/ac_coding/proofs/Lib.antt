@@ -3,6 +3,7 @@ pub mod CodesOfPointers
 pub mod Entries
 pub mod GreatestRows
 pub mod OneFrame
+pub mod OneOfValues
 pub mod Parts
 pub mod RunsOfBlocks
 pub mod Values

@@ -12,11 +12,11 @@ use Rattle.ac_rows.specs.Filled.{listed}
 use Rattle.ac_sent.specs.Packed.{IsPacked}
 use Rattle.ac_sent.specs.Values.{Quantised}
 use Rattle.ac_sent.proofs.Back.{gives_back}
-use Rattle.ac_packing.proofs.Unique.{frame_size, one_frame}
+use Rattle.ac_packing.proofs.Unique.{frame_size}
 use Rattle.ac_coding.specs.Laws.{OneFrameOfCoefficients, ReadingGivesCoefficients, FrameIsBySpans, FrameHasSize, Agree}
 use Rattle.ac_coding.specs.Rows.{code_by}
 use Rattle.ac_coding.specs.Values.{Coefficients, in_spans, raw_rows, run_at, exponent_at, exponents, pointer_by, codes, values_of}
-use Rattle.ac_coding.proofs.Entries.{spans_same}
+use Rattle.ac_coding.proofs.OneOfValues.{one_of_values}
 use Rattle.ac_coding.proofs.Values.{are_quantised}
 
 -- the values have the shape
@@ -34,7 +34,7 @@ unfolding values_of
 coordinates_are shape x t assign remat coords = refl
 
 pub one : OneFrameOfCoefficients
-one shape x t assign remat coords frame other asked a b p q = one_frame (values_of shape x t assign remat coords) frame other (are_quantised shape x t assign remat coords asked) a b p q
+one shape x t assign remat coords frame other a b p q = one_of_values (values_of shape x t assign remat coords) frame other a b p q
 
 pub back : ReadingGivesCoefficients
 back shape x t assign remat coords frame f asked packed reading = gives_back (values_of shape x t assign remat coords) frame f (are_quantised shape x t assign remat coords asked) packed reading

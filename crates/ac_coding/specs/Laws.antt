@@ -19,11 +19,11 @@ ValuesAreQuantised =
     (shape : Shape) (x : Coefficients) (t : ℕ) (assign : Assign) (remat : List Bool) (coords : Coordinates)
     → IsAsked shape x t assign coords → IsQuantised (values_of shape x t assign remat coords)
 
--- there is one frame of them
+-- there is one frame of them, whatever they are
 abbrev pub OneFrameOfCoefficients : Type 0
 OneFrameOfCoefficients =
     (shape : Shape) (x : Coefficients) (t : ℕ) (assign : Assign) (remat : List Bool) (coords : Coordinates) (frame other : List ℕ)
-    → IsAsked shape x t assign coords → AreBytes frame → AreBytes other
+    → AreBytes frame → AreBytes other
     → IsCoded shape x t assign remat coords frame → IsCoded shape x t assign remat coords other → frame ≡ other
 
 -- and its reading gives them back

@@ -87,12 +87,7 @@ fn fill_channel(shape: &Shape, raw: &RawExps, assign: &Assign, c: u8, rows: &mut
 }
 
 /// The exponents of a frame: of each coded channel, and 0 elsewhere.
-pub fn write_exponents(
-    shape: &Shape,
-    raw: &RawExps,
-    assign: &Assign,
-    out: &mut [[[u8; 256]; 6]; 7],
-)
+pub fn write_exponents(shape: &Shape, raw: &RawExps, assign: &Assign, out: &mut [[[u8; 256]; 6]; 7])
     requires { IsAssignmentOf shape.now assign.now.w }
     ensures { out.new ≡ in_spans shape.now (exponent_by shape.now raw.now.e assign.now.w) }
 {

@@ -18,8 +18,7 @@ loop-b-preserved c =
     let b = c.loop-b.b in
     let P : ℕ → List ℕ → Type 0 = λ a row. row ≡ row_at shape (code_by shape (entry c.args.coefs.now.c) exps c.args.t) c.args.c a in
     let row = codes_written shape c.args.coefs.now.c exps c.args.t c.args.c b c.from-at.result c.from-block.result c.span-span.result c.point_block.new.out c.write_row.new.out c.requires.channel c.from-at.ensures c.from-block.ensures c.span-span.ensures.value c.point_block.ensures c.write_row.ensures in
-    let here : b ≡ b + 1 - 1 = omega arith in
-    (
+    let here : b ≡ b + 1 - 1 = omega arith in (
       length-set c.loop-b.rows c.from-block.result _ ∙ c.loop-b.invariant.0,
       λ some. subst (λ (i : ℕ). ArePointersIn shape exps c.args.t c.args.c i c.point_block.new.out) here c.point_block.ensures,
       row_after P c.loop-b.rows c.from-block.result b c.write_row.new.out c.from-block.ensures (omega (arith, c.loop-b.invariant.0)) c.loop-b.invariant.2 row,
