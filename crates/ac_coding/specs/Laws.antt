@@ -29,8 +29,8 @@ OneFrameOfCoefficients =
 -- and its reading gives them back
 abbrev pub ReadingGivesCoefficients : Type 0
 ReadingGivesCoefficients =
-    (shape : Shape) (x : Coefficients) (t : ℕ) (assign : Assign) (remat : List Bool) (coords : Coordinates) (frame : List ℕ) (f : FrameCodes)
-    → IsAsked shape x t assign coords → IsCoded shape x t assign remat coords frame → IsReading frame f
+    (shape : Shape) (x : Coefficients) (t : ℕ) (assign : Assign) (remat : List Bool) (coords : Coordinates)
+    (frame : List ℕ) (f : FrameCodes) → IsAsked shape x t assign coords → IsCoded shape x t assign remat coords frame → IsReading frame f
     → IsBack (values_of shape x t assign remat coords) f
 
 -- coefficients that agree at the bins of the spans have the same values

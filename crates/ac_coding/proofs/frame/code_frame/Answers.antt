@@ -12,7 +12,7 @@ pub pack-requires : goal.pack-requires
 pack-requires c =
     let q = c.args.q.now in
     let asked = asked_by_rows q c.args.coefs.now.c c.args.raw.now.e c.args.t c.args.assign.now c.requires.small c.requires.raw c.requires.offset c.requires.assigned c.requires.fits c.requires.sized c.requires.coordinates in
-    subst IsQuantised (sym c.quantise_frame.ensures) (are_quantised q.shape (entry c.args.coefs.now.c) c.args.t c.args.assign.now q.remat q.coords asked)
+    record { asked = subst IsQuantised (sym c.quantise_frame.ensures) (are_quantised q.shape (entry c.args.coefs.now.c) c.args.t c.args.assign.now q.remat q.coords asked) }
 
 pub returns : goal.returns
 returns c =
