@@ -1,96 +1,74 @@
--- The frame of a sound at a rate is one list of bytes.
-use Rattle.std.proofs.Common.{◌≡◌, ℕ, ◌+◌, ◌*◌, ◌/◌, ◌<◌, ◌≤◌, List, [], ◌∷◌, length, take, drop, slice_index, ℤ, refl, ap, sym, ◌∙◌, subst, arith}
-use Rattle.std.specs.Prelude.{◌==◌, nat_lt, if◌then◌else◌}
-use Rattle.std.proofs.lemmas.Bool.{eqb-true}
-use Rattle.ac_base.specs.Rates.{rates, IsRate, HasCode}
-use Rattle.ac_base.specs.Shape.{IsSpan}
-use Rattle.ac_base.specs.Sizes.{frame_words_of}
-use Rattle.ac_base.proofs.SpanBounds.{span_end}
-use Rattle.ac_base.proofs.Tests.{all_below-at}
+-- What holds of each frame.
+use Rattle.std.proofs.Common.{◌≡◌, ℕ, ◌+◌, ◌-◌, ◌*◌, ◌/◌, ◌<◌, ◌≤◌, List, length, take, drop, ℤ, refl, ap, sym, subst, ◌∙◌, arith}
+use Rattle.ac_base.specs.declared.shapes.Shape.{Shape}
+use Rattle.ac_base.specs.Rates.{IsRate}
+use Rattle.ac_base.specs.Sizes.{frame_words_of, front_room}
 use Rattle.ac_bits.specs.Bits.{bits_of}
 use Rattle.ac_crc.specs.Remainder.{IsRemainder}
-use Rattle.ac_base.specs.Spans.{IsKind}
-use Rattle.ac_base.specs.Spans.{groups_of}
-use Rattle.ac_expo.specs.Spelling.{Spelling}
-use Rattle.ac_expo.proofs.Agreeing.{RawsAgree, same_exps, same_spelling}
-use Rattle.ac_expo.proofs.Spellings.{groups_long}
-use Rattle.ac_base.specs.Shape.{free_span}
-use Rattle.ac_frame.specs.Plain.{AreBytes, IsSized, IsPlain}
-use Rattle.ac_frame.proofs.Widths.{few_groups}
-use Rattle.ac_frame.proofs.Frames.{Made}
-use Rattle.ac_frame.proofs.Unique.{frame_size, first_part, both_parts, one_frame}
-use Rattle.ac_enc.specs.Frame.{bandwidth, mono_span, size_code, AreRaw, IsSpelled, IsFrame}
-use Rattle.ac_enc.proofs.Sizes.{words_fit}
-use Rattle.ac_enc.proofs.Spans.{groups_are}
+use Rattle.ac_plan.specs.Plans.{IsMarked}
+use Rattle.ac_plan.specs.declared.answer.Mark.{Mark}
+use Rattle.ac_plan.specs.declared.answer.Mark.TheVariants.{Best, Bounded}
+use Rattle.ac_plan.specs.declared.answer.Plan.{Plan}
+use Rattle.ac_record.specs.Laws.{AreBytes}
+use Rattle.ac_record.specs.CrcParts.{front_part, all_part}
+use Rattle.ac_record.specs.Records.{words_of}
+use Rattle.ac_sent.specs.Asked.{IsSizeCode}
+use Rattle.ac_sent.specs.Fields.{sent_head}
+use Rattle.ac_sent.specs.Packed.{sent_record, IsPacked}
+use Rattle.ac_sent.specs.Values.{Quantised}
+use Rattle.ac_words.specs.declared.meaning.Options.{Options}
+use Rattle.ac_coding.specs.Values.{values_of, IsCoded}
+use Rattle.ac_enc.specs.Frame.{IsFrame, coefficients, no_flags, no_coordinates}
+use Rattle.ac_coding.proofs.OneFrame as coding
+use Rattle.ac_enc.proofs.Bits.{bits_of-take, bits_of-drop}
+use Rattle.ac_enc.proofs.OneShape.{one_shape}
 
--- ---- the code
+-- the size of a coded frame has a code, since its head says it
+coded_sized : (q : Quantised) (frame : List ℕ) → IsPacked q frame → (code : ℕ) × IsSizeCode q.shape.fscod q.shape.words code
+coded_sized q frame p = (p.frmsizecod, p.size)
 
--- how many rates are below this one
-lower_rates : ℕ → List ℕ → ℕ
-lower_rates rate [] = 0
-lower_rates rate (r ∷ rs) = if nat_lt r rate then lower_rates rate rs + 1 else lower_rates rate rs
+pub frame_sized : (o : Options) (fscod i : ℕ) (x : ℕ → ℤ) (plan : Plan) (frame : List ℕ) → (p : IsFrame o fscod i x plan frame) → (code : ℕ) × IsSizeCode p.shape.fscod p.shape.words code
+unfolding values_of
+frame_sized o fscod i x plan frame p = coded_sized (values_of p.shape (coefficients x) plan.offset plan.assign no_flags no_coordinates) frame p.coded
 
--- the rates rise
-code_back : (code : ℕ) → code ≤ 18 → lower_rates (slice_index rates code) rates ≡ code
-unfolding lower_rates
-code_back code small = eqb-true _ _ (all_below-at 19 (λ k. lower_rates (slice_index rates k) rates == k) refl code (omega arith))
+pub size : (o : Options) (fscod i : ℕ) (x : ℕ → ℤ) (plan : Plan) (frame : List ℕ) → IsRate o.rate → fscod ≤ 2 → IsFrame o fscod i x plan frame → length frame ≡ 2 * frame_words_of o.rate fscod i
+size o fscod i x plan frame is known p =
+    coding.size p.shape (coefficients x) plan.offset plan.assign no_flags no_coordinates frame p.coded ∙ ap (λ w. 2 * w) p.shape_is.size
 
-one_code : (rate code other : ℕ) → HasCode rate code → HasCode rate other → code ≡ other
-one_code rate code other p q = sym (code_back code p.small) ∙ (ap (λ r. lower_rates r rates) (p.entry ∙ sym q.entry) ∙ code_back other q.small)
+pub one : (o : Options) (fscod i : ℕ) (x : ℕ → ℤ) (plan : Plan) (f g : List ℕ) → IsRate o.rate → fscod ≤ 2 → AreBytes f → AreBytes g → IsFrame o fscod i x plan f → IsFrame o fscod i x plan g → f ≡ g
+one o fscod i x plan f g is known bf bg p q =
+    let same = one_shape o fscod i q.shape p.shape q.shape_is p.shape_is in
+    let other = subst (λ (s : Shape). IsCoded s (coefficients x) plan.offset plan.assign no_flags no_coordinates g) same q.coded in
+    coding.one p.shape (coefficients x) plan.offset plan.assign no_flags no_coordinates f g bf bg p.coded other
 
--- ---- the spelling
+-- ---- the CRC parts
+packed_first : (q : Quantised) (frame : List ℕ) → IsPacked q frame → IsRemainder (front_part q.shape.words (bits_of frame)) 0
+unfolding sent_record
+packed_first q frame p = subst (λ (w : ℕ). IsRemainder (front_part w (bits_of frame)) 0) p.size.size p.stands.front
 
-is_span : (rate : ℕ) → IsSpan (mono_span rate)
-is_span rate = (refl, (bandwidth rate, omega arith, refl))
+packed_all : (q : Quantised) (frame : List ℕ) → IsPacked q frame → IsRemainder (all_part (bits_of frame)) 0
+packed_all q frame p = p.stands.all
 
-is_kind : (rate : ℕ) → IsKind 3 (mono_span rate)
-is_kind rate = (omega arith, omega arith)
+pub first_part : (o : Options) (fscod i : ℕ) (x : ℕ → ℤ) (plan : Plan) (frame : List ℕ) → IsFrame o fscod i x plan frame
+    → let words = frame_words_of o.rate fscod i in IsRemainder (bits_of (drop 2 (take (2 * (words / 2 + words / 8)) frame))) 0
+unfolding values_of
+first_part o fscod i x plan frame p =
+    let words = frame_words_of o.rate fscod i in
+    let here = packed_first (values_of p.shape (coefficients x) plan.offset plan.assign no_flags no_coordinates) frame p.coded in
+    let own = subst (λ (w : ℕ). IsRemainder (front_part w (bits_of frame)) 0) p.shape_is.size here in
+    let many : 8 * (2 * (words / 2 + words / 8)) ≡ front_room words = omega arith in
+    let bits = bits_of-drop 2 (take (2 * (words / 2 + words / 8)) frame) ∙ ap (drop 16) (bits_of-take (2 * (words / 2 + words / 8)) frame ∙ ap (λ n. take n (bits_of frame)) many) in
+    subst (λ l. IsRemainder l 0) (sym bits) own
 
-raws_agree : (rate : ℕ) (x : ℕ → ℤ) (raw other : List (List ℕ)) → AreRaw x raw → AreRaw x other → RawsAgree (mono_span rate) raw other 0 6
-raws_agree rate x raw other p q b k low high inside =
-    let most = span_end (mono_span rate) (is_span rate) in
-    let below : k < 256 = omega (arith, inside.1, most) in
-    p b high k below ∙ sym (q b high k below)
+pub both_parts : (o : Options) (fscod i : ℕ) (x : ℕ → ℤ) (plan : Plan) (frame : List ℕ) → IsFrame o fscod i x plan frame → IsRemainder (bits_of (drop 2 frame)) 0
+both_parts o fscod i x plan frame p =
+    let here = packed_all (values_of p.shape (coefficients x) plan.offset plan.assign no_flags no_coordinates) frame p.coded in
+    subst (λ l. IsRemainder l 0) (sym (bits_of-drop 2 frame)) here
 
-one_spelling : (rate : ℕ) (x : ℕ → ℤ) (s t : Spelling) → IsSpelled rate x s → IsSpelled rate x t → s ≡ t
-one_spelling rate x s t p q =
-    let span = mono_span rate in
-    let same = same_exps 3 span p.raw q.raw 0 6 p.exps q.exps (is_span rate) (is_kind rate) (raws_agree rate x p.raw q.raw p.is_raw q.is_raw) p.is_exps q.is_exps in
-    p.is_spelled ∙ (same_spelling 3 span p.exps q.exps (is_span rate) same ∙ sym q.is_spelled)
+-- ---- the mark
+mark_best : (shape : Shape) (raw : List (List (List ℕ))) (nodes s : ℕ) (m : Mark) → IsMarked shape raw nodes s m → m ≡ Best
+mark_best shape raw nodes s Best h = refl
+mark_best shape raw nodes s (Bounded upper) h = absurd h
 
-spelled_long : (rate : ℕ) (x : ℕ → ℤ) (s : Spelling) → IsSpelled rate x s → length s.groups ≡ groups_of 3 (free_span (bandwidth rate))
-spelled_long rate x s p =
-    ap (λ (t : Spelling). length t.groups) p.is_spelled
-    ∙ (groups_long 3 (mono_span rate) p.exps (groups_of 3 (mono_span rate)) ∙ groups_are rate)
-
--- ---- the frame
-
-sized : (rate fscod i : ℕ) (x : ℕ → ℤ) (frame : List ℕ) → IsRate rate → (p : IsFrame rate fscod i x frame) → IsSized (frame_words_of rate fscod i) p.spelled.groups
-sized rate fscod i x frame is p =
-    let fit = words_fit rate fscod i is in
-    let long = spelled_long rate x p.spelled p.is_spelled in
-    record { least = fit.0; most = fit.1; few = omega (arith, long, few_groups (bandwidth rate) (omega arith)) }
-
-abbrev made : ℕ → ℕ → ℕ → ℕ → Spelling → Made
-made rate fscod i code s =
-    record { fscod = fscod; frmsizecod = size_code rate fscod i code; words = frame_words_of rate fscod i; bw = bandwidth rate; first = s.first; groups = s.groups }
-
-pub size : (rate fscod i : ℕ) (x : ℕ → ℤ) (frame : List ℕ) → IsRate rate → fscod ≤ 2 → IsFrame rate fscod i x frame → length frame ≡ 2 * frame_words_of rate fscod i
-size rate fscod i x frame is known p = frame_size (made rate fscod i p.code p.spelled) frame (sized rate fscod i x frame is p) p.plain
-
-pub front : (rate fscod i : ℕ) (x : ℕ → ℤ) (frame : List ℕ) → IsFrame rate fscod i x frame
-    → let words = frame_words_of rate fscod i in IsRemainder (bits_of (drop 2 (take (2 * (words / 2 + words / 8)) frame))) 0
-front rate fscod i x frame p = first_part (made rate fscod i p.code p.spelled) frame p.plain
-
-pub whole : (rate fscod i : ℕ) (x : ℕ → ℤ) (frame : List ℕ) → IsFrame rate fscod i x frame → IsRemainder (bits_of (drop 2 frame)) 0
-whole rate fscod i x frame p = both_parts (made rate fscod i p.code p.spelled) frame p.plain
-
-pub one : (rate fscod i : ℕ) (x : ℕ → ℤ) (f g : List ℕ) → IsRate rate → fscod ≤ 2 → AreBytes f → AreBytes g → IsFrame rate fscod i x f → IsFrame rate fscod i x g → f ≡ g
-one rate fscod i x f g is known bf bg p q =
-    let a = made rate fscod i p.code p.spelled in
-    let words = frame_words_of rate fscod i in
-    let code = one_code rate q.code p.code q.has_code p.has_code in
-    let spelling = one_spelling rate x q.spelled p.spelled q.is_spelled p.is_spelled in
-    let by_code = subst (λ (k : ℕ). IsPlain fscod (size_code rate fscod i k) words (bandwidth rate) q.spelled.first q.spelled.groups g) code q.plain in
-    let by_spelling = subst (λ (s : Spelling). IsPlain fscod (size_code rate fscod i p.code) words (bandwidth rate) s.first s.groups g) spelling by_code in
-    one_frame a f g (sized rate fscod i x f is p) bf bg p.plain by_spelling
+pub mono : (o : Options) (fscod i : ℕ) (x : ℕ → ℤ) (plan : Plan) (frame : List ℕ) → IsFrame o fscod i x plan frame → plan.mark ≡ Best
+mono o fscod i x plan frame p = mark_best p.shape p.raw o.nodes plan.offset plan.mark p.lawful.marked

@@ -1,5 +1,12 @@
+pub mod Asking
+pub mod Bits
+pub mod First
+pub mod Fitting
 pub mod Frames
+pub mod Heads
+pub mod Last
+pub mod Made
+pub mod OneShape
 pub mod Places
-pub mod Sizes
-pub mod Spans
 pub mod Silence
+pub mod Sizes

@@ -1,11 +1,12 @@
 -- The sizes of frames.
-use Rattle.std.proofs.Common.{◌≡◌, ℕ, zero, suc, ◌+◌, ◌-◌, ◌*◌, ◌/◌, ◌%◌, ◌≤◌, ◌⊎◌, inl, inr, Bool, true, false, refl, ap, arith}
+use Rattle.std.proofs.Common.{◌≡◌, ℕ, zero, suc, ◌+◌, ◌-◌, ◌*◌, ◌/◌, ◌%◌, ◌<◌, ◌≤◌, ◌⊎◌, inl, inr, Bool, true, false, slice_index, refl, ap, ap₂, arith}
 use Rattle.std.specs.Prelude.{nat_eq, if◌then◌else◌}
-use Rattle.std.proofs.lemmas.Bool.{cases_lt, eqb-true}
+use Rattle.std.proofs.lemmas.Bool.{cases_lt, eqb-true, eq-eqb}
 use Rattle.std.proofs.lemmas.Bool.Decides.{eqb_tells}
-use Rattle.ac_base.specs.Rates.{IsRate}
-use Rattle.ac_base.specs.Sizes.{frame_words_of, words_before, table_words}
-use Rattle.ac_base.proofs.RateTable.{rate_least, rate_most}
+use Rattle.ac_base.specs.Rates.{IsRate, rates}
+use Rattle.ac_base.specs.Sizes.{frame_words_of, words_before, table_words, code_words}
+use Rattle.ac_base.proofs.RateTable.{rate_least, rate_most, rate_at}
+use Rattle.ac_sent.specs.Asked.{IsSizeCode}
 use Rattle.ac_enc.specs.Frame.{size_code, words_so_far}
 
 -- one frame more
@@ -88,4 +89,39 @@ listed rate fscod i code =
             | inl e ↦ absurd (h.1 e)
             | inr e ↦ inr (e.0, e.1, ap chosen h.0)
           ]
+    ]
+
+-- ---- each size has a code
+
+-- the words of the two codes of a rate
+words_of_code : (fscod k r : ℕ) → r < 2 → code_words fscod (2 * k + r) ≡ table_words (slice_index rates k) fscod + (if nat_eq fscod 1 then r else 0)
+words_of_code fscod k r small =
+    let half : (2 * k + r) / 2 ≡ k = omega arith in
+    let rest : (2 * k + r) % 2 ≡ r = omega arith in
+    ap₂ (λ (h p : ℕ). table_words (slice_index rates h) fscod + (if nat_eq fscod 1 then p else 0)) half rest
+
+abbrev more_where : Bool → ℕ → ℕ
+more_where b n = if b then n else 0
+
+none_more : (b : Bool) → more_where b 0 ≡ 0
+none_more true = refl
+none_more false = refl
+
+-- the words of frame i have a code that this encoder writes
+pub sized : (rate fscod i : ℕ) → IsRate rate → (code : ℕ) × IsSizeCode fscod (frame_words_of rate fscod i) code
+sized rate fscod i is =
+    let at = rate_at rate is in
+    let k = at.0 in
+    let table = ap (λ r. table_words r fscod) at.2 in
+    elim (words_listed rate fscod i) [
+      | inl e ↦
+          let even = words_of_code fscod k 0 (omega arith) in
+          let none = none_more (nat_eq fscod 1) in
+          let code : 2 * k + 0 < 38 = let small = at.1 in omega arith in
+          (2 * k + 0, record { known = code; even = inr (omega arith); size = omega (arith, even, none, table, e) })
+      | inr e ↦
+          let odd = words_of_code fscod k 1 (omega arith) in
+          let one : more_where (nat_eq fscod 1) 1 ≡ 1 = ap (λ (b : Bool). more_where b 1) (eq-eqb fscod 1 e.0) in
+          let code : 2 * k + 1 < 38 = let small = at.1 in omega arith in
+          (2 * k + 1, record { known = code; even = inl e.0; size = let more = e.1 in omega (arith, odd, one, table, more) })
     ]

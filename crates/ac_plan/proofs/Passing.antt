@@ -1,5 +1,5 @@
 -- Offsets and words that are passed over.
-use Rattle.std.proofs.Common.{◌≡◌, ℕ, ◌+◌, ◌<◌, Bool, true, false, not, IsTrue, slice_index, List, replicate, refl, sym, ap, inl, inr, subst, arith}
+use Rattle.std.proofs.Common.{◌≡◌, ℕ, ◌+◌, ◌<◌, ◌≤◌, Bool, true, false, not, IsTrue, slice_index, List, replicate, refl, sym, ap, inl, inr, subst, arith}
 use Rattle.std.proofs.lemmas.Bool.{cases_eq}
 use Rattle.ac_base.specs.declared.shapes.Shape.{Shape}
 use Rattle.ac_base.specs.Sigma.{sum_below}
@@ -65,11 +65,12 @@ word_unfit shape raw t one word sides sixths is side are over =
     (record { part = part; is_part = over.is_part; over = omega (arith, o, sum, are part over.is_part, side.value part over.is_part) })
 
 -- ---- plans
-pub lawful : (shape : Shape) (raw : List (List (List ℕ))) (nodes t : ℕ) (plan : Plan) (word : List ℕ) → channels shape ≡ 1 → IsWord word → FitsAt shape raw t (replicate 7 word) → NoneFitsAbove shape raw t → plan.offset ≡ t → plan.assign.w ≡ replicate 7 word → plan.mark ≡ Best → IsLawful shape raw nodes plan
-lawful shape raw nodes t plan word one is fits above offset words mark =
+pub lawful : (shape : Shape) (raw : List (List (List ℕ))) (nodes t : ℕ) (plan : Plan) (word : List ℕ) → channels shape ≡ 1 → t ≤ 1023 → IsWord word → FitsAt shape raw t (replicate 7 word) → NoneFitsAbove shape raw t → plan.offset ≡ t → plan.assign.w ≡ replicate 7 word → plan.mark ≡ Best → IsLawful shape raw nodes plan
+lawful shape raw nodes t plan word one low is fits above offset words mark =
     let assignment = word_is shape one word is in
     let best : IsBest shape raw t = record { feasible = record { assign = replicate 7 word; is_assignment = assignment; fits = fits }; none_above = above } in
     record {
+      within = omega (arith, low, offset);
       is_assignment = subst (IsAssignmentOf shape) (sym words) assignment;
       fits = subst (λ s. FitsAt shape raw s plan.assign.w) (sym offset) (subst (FitsAt shape raw t) (sym words) fits);
       marked = subst (IsMarked shape raw nodes plan.offset) (sym mark) (subst (IsBest shape raw) (sym offset) best);

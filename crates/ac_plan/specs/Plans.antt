@@ -23,6 +23,7 @@ IsMarked shape raw nodes s (Bounded upper) = ⊥
 
 -- the plans that may be answered within a budget of nodes: the assignment fits at the offset, and the mark is true of it
 pub record IsLawful (shape : Shape) (raw : List (List (List ℕ))) (nodes : ℕ) (plan : Plan) : Type 0 where
+  pub within : plan.offset ≤ 1023
   pub is_assignment : IsAssignmentOf shape plan.assign.w
   pub fits : FitsAt shape raw plan.offset plan.assign.w
   pub marked : IsMarked shape raw nodes plan.offset plan.mark

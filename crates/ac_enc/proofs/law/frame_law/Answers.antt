@@ -1,5 +1,5 @@
 use Rattle.std.proofs.Common.{sym}
-use Rattle.ac_enc.proofs.Frames.{size, front, whole, one}
+use Rattle.ac_enc.proofs.Frames.{size, first_part, both_parts, one, mono}
 use Rattle.ac_enc.proofs.Places.{frame_same}
 use Rattle.ac_enc.proofs.Sizes.{kept, listed}
 use Rattle.ac_enc.proofs.law.frame_law.Goals as goal
@@ -8,16 +8,19 @@ pub returns-clause-size : goal.returns-clause-size
 returns-clause-size c = size
 
 pub returns-clause-first_part : goal.returns-clause-first_part
-returns-clause-first_part c = front
+returns-clause-first_part c = first_part
 
 pub returns-clause-both_parts : goal.returns-clause-both_parts
-returns-clause-both_parts c = whole
+returns-clause-both_parts c = both_parts
 
 pub returns-clause-one : goal.returns-clause-one
 returns-clause-one c = one
 
 pub returns-clause-depends : goal.returns-clause-depends
-returns-clause-depends c = λ rate fscod i x y frame same. (frame_same rate fscod i x y frame same, frame_same rate fscod i y x frame (λ p below. sym (same p below)))
+returns-clause-depends c = λ o fscod i x y plan frame same. (frame_same o fscod i x y plan frame same, frame_same o fscod i y x plan frame (λ p below. sym (same p below)))
+
+pub returns-clause-mono : goal.returns-clause-mono
+returns-clause-mono c = mono
 
 pub returns-clause-keeps_rate : goal.returns-clause-keeps_rate
 returns-clause-keeps_rate c = kept

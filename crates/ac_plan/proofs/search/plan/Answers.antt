@@ -32,7 +32,7 @@ returns-in-Some-clause-lawful c =
     let at : c.at.result.raw ≡ raw = ap (λ (v : AtOffset). v.raw) c.at.ensures.value ∙ ap (λ (x : Exponents). x.raw) c.of-lists.ensures.value in
     let place : c.at.result.t ≡ t = ap (λ (v : AtOffset). v.t) c.at.ensures.value in
     let fits = subst (λ u. FitsAt shape raw u (replicate 7 word)) place (subst (λ (x : List (List (List ℕ))). FitsAt shape x c.at.result.t (replicate 7 word)) at c.in-Some.ensures.some) in
-    lawful shape raw c.args.nodes t c.best.result word c.requires.one c.in-Some.ensures.word fits c.loop-t.invariant.none c.best.ensures.offset c.best.ensures.words c.best.ensures.mark
+    lawful shape raw c.args.nodes t c.best.result word c.requires.one c.loop-t.invariant.within c.in-Some.ensures.word fits c.loop-t.invariant.none c.best.ensures.offset c.best.ensures.words c.best.ensures.mark
 
 pub returns-clause-lawful : goal.returns-clause-lawful
 returns-clause-lawful c =
@@ -41,4 +41,4 @@ returns-clause-lawful c =
     let zero_ : c.loop-t.t ≡ 0 = omega (arith, c.loop-t-test.false) in
     let above = subst (NoneFitsAbove shape raw) zero_ c.loop-t.invariant.none in
     let words = c.best-2.ensures.words ∙ ap (λ (w : List ℕ). replicate 7 w) c.word_at.ensures in
-    lawful shape raw c.args.nodes 0 c.best-2.result most c.requires.one most_is (cheapest_word_fits shape c.requires.one raw c.requires.cheapest) above c.best-2.ensures.offset words c.best-2.ensures.mark
+    lawful shape raw c.args.nodes 0 c.best-2.result most c.requires.one (omega arith) most_is (cheapest_word_fits shape c.requires.one raw c.requires.cheapest) above c.best-2.ensures.offset words c.best-2.ensures.mark
