@@ -1,9 +1,8 @@
 -- The frame depends on the coefficients at the bins of the spans alone, whatever the assignment.
-use Rattle.std.proofs.Common.{◌≡◌, ℕ, zero, suc, ◌+◌, ◌-◌, ◌*◌, ◌<◌, ◌≤◌, Bool, List, [], length, slice_index, slice_index_or, refl, ap, ap₂, sym, subst, ◌∙◌, inl, inr, arith}
+use Rattle.std.proofs.Common.{◌≡◌, ℕ, zero, suc, ◌+◌, ◌-◌, ◌<◌, ◌≤◌, Bool, List, [], slice_index, slice_index_or, refl, ap, ap₂, sym, subst, ◌∙◌, inl, inr, arith}
 use Rattle.std.specs.Prelude.{◌==◌, min, if◌then◌else◌}
 use Rattle.std.proofs.lemmas.Bool.{cases_lt}
 use Rattle.std.proofs.lemmas.List.{get_or_past}
-use Rattle.ac_base.specs.declared.runs.Run.{Run}
 use Rattle.ac_base.specs.declared.shapes.Shape.{Shape}
 use Rattle.ac_base.specs.declared.spans.Span.{Span}
 use Rattle.ac_base.specs.Spans.{IsIn, is_coupling}
@@ -21,7 +20,7 @@ use Rattle.ac_cost.proofs.Exponents.{span_of_shape}
 use Rattle.ac_sent.proofs.Listed.{length-listed}
 use Rattle.ac_coding.specs.Laws.{FrameIsBySpans, FrameIsByCoefficients, Agree}
 use Rattle.ac_coding.specs.Rows.{code_by}
-use Rattle.ac_coding.specs.Values.{Coefficients, in_spans, raw_rows, run_at, exponent_at, exponents, pointer_by, codes, values_of, IsCoded}
+use Rattle.ac_coding.specs.Values.{Coefficients, raw_rows, run_at, exponent_at, exponents, pointer_by, codes, values_of}
 use Rattle.ac_sent.specs.Packed.{IsPacked}
 use Rattle.ac_coding.proofs.Entries.{spans_same}
 use Rattle.ac_coding.proofs.GreatestRows.{raw_entry}

@@ -1,12 +1,10 @@
 -- The code of a coefficient is one of its pointer.
-use Rattle.std.proofs.Common.{◌≡◌, ℕ, ◌+◌, ◌-◌, ◌*◌, ◌^◌, ◌<◌, ◌≤◌, ℤ, pos, ◌+ℤ◌, ◌*ℤ◌, unsigned_abs, Bool, true, false, List, slice_index, nat_le, refl, ap, sym, subst, ◌∙◌, inl, inr, arith}
-use Rattle.std.specs.Prelude.{◌==◌, if◌then◌else◌}
-use Rattle.std.proofs.lemmas.Bool.{cases_lt, le-leb}
+use Rattle.std.proofs.Common.{◌≡◌, ℕ, ◌*◌, ◌^◌, ◌<◌, ◌≤◌, ℤ, pos, unsigned_abs, Bool, true, false, List, slice_index, refl, sym, subst, arith}
+use Rattle.std.specs.Prelude.{if◌then◌else◌}
 use Rattle.std.proofs.lemmas.Bool.Decides.{nat_tests}
-use Rattle.std.proofs.lemmas.Int.{ints, unsigned_abs-mul}
+use Rattle.std.proofs.lemmas.Int.{unsigned_abs-mul}
 use Rattle.std.proofs.Math.Nat.{mul-le-mul_left}
 use Rattle.ac_base.specs.declared.spans.Span.{Span}
-use Rattle.ac_base.specs.Floor.{floor_div}
 use Rattle.ac_base.proofs.AllocationTables.{baps_small}
 use Rattle.ac_base.proofs.Powers.{pow_le}
 use Rattle.ac_alloc.specs.declared.params.Params.{Params}
@@ -15,7 +13,7 @@ use Rattle.ac_alloc.specs.Integration.{psd}
 use Rattle.ac_alloc.specs.Masking.{mask}
 use Rattle.ac_alloc.specs.Pointers.{address, level, bap_at, pointer}
 use Rattle.ac_base.specs.Allocation.{masktab_list}
-use Rattle.ac_mant.specs.Quantiser.{IsCode, code_limit, code_of, complement, is_symmetric, level_of, levels, natural, nearest, normalised, width}
+use Rattle.ac_mant.specs.Quantiser.{IsCode, code_of, complement, is_symmetric, level_of, levels, natural, nearest, normalised, width}
 use Rattle.ac_mant.proofs.Pointers.{levels_least, width_least, width_most}
 use Rattle.ac_mant.proofs.Rounding.{level_around_is, nearest_low, nearest_high, complement_low}
 

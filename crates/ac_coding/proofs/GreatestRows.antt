@@ -1,9 +1,8 @@
 -- The exponents of coefficients: by their raw exponents in a list, by runs, and that coefficients can be coded with them.
-use Rattle.std.proofs.Common.{◌≡◌, ℕ, ◌+◌, ◌-◌, ◌*◌, ◌^◌, ◌<◌, ◌≤◌, ◌&&◌, ℤ, unsigned_abs, Bool, List, [], slice_index, slice_index_or, nat_lt, refl, ap, sym, subst, ◌∙◌, inl, inr, arith}
+use Rattle.std.proofs.Common.{◌≡◌, ℕ, ◌+◌, ◌*◌, ◌^◌, ◌<◌, ◌≤◌, ◌&&◌, unsigned_abs, List, [], slice_index, slice_index_or, nat_lt, refl, ap, sym, subst, ◌∙◌, arith}
 use Rattle.std.specs.Prelude.{◌==◌, if◌then◌else◌}
 use Rattle.ac_base.specs.declared.runs.Run.{Run}
 use Rattle.ac_base.specs.declared.shapes.Shape.{Shape}
-use Rattle.ac_base.specs.declared.spans.Span.{Span}
 use Rattle.ac_base.specs.Spans.{IsIn}
 use Rattle.ac_base.specs.Words.{word_of}
 use Rattle.ac_base.proofs.SpanBounds.{span_end}

@@ -1,21 +1,12 @@
 -- Laws of frames by their coefficients.
-use Rattle.std.proofs.Common.{◌≡◌, ℕ, ◌*◌, ◌<◌, Bool, List, [], length, slice_index_or, refl, ap, ap₂, sym, subst, ◌∙◌}
+use Rattle.std.proofs.Common.{◌≡◌, ℕ, ◌*◌, Bool, List, refl, ap, ◌∙◌}
 use Rattle.ac_base.specs.declared.shapes.Shape.{Shape}
-use Rattle.ac_base.specs.Spans.{IsIn}
 use Rattle.ac_expo.specs.declared.word.Assign.{Assign}
-use Rattle.ac_expo.specs.Greatest.{exponent_of}
-use Rattle.ac_expo.specs.Raw.{channel_span, channels, raw_of}
 use Rattle.ac_joint.specs.declared.Coordinates.{Coordinates}
-use Rattle.ac_mant.specs.Quantiser.{code_of}
-use Rattle.ac_record.specs.Readings.{cell}
-use Rattle.ac_rows.specs.Filled.{listed}
-use Rattle.ac_sent.specs.Packed.{IsPacked}
-use Rattle.ac_sent.specs.Values.{Quantised}
 use Rattle.ac_sent.proofs.Back.{gives_back}
 use Rattle.ac_packing.proofs.Unique.{frame_size}
-use Rattle.ac_coding.specs.Laws.{OneFrameOfCoefficients, ReadingGivesCoefficients, FrameIsBySpans, FrameHasSize, Agree}
-use Rattle.ac_coding.specs.Rows.{code_by}
-use Rattle.ac_coding.specs.Values.{Coefficients, in_spans, raw_rows, run_at, exponent_at, exponents, pointer_by, codes, values_of}
+use Rattle.ac_coding.specs.Laws.{OneFrameOfCoefficients, ReadingGivesCoefficients, FrameHasSize}
+use Rattle.ac_coding.specs.Values.{Coefficients, values_of}
 use Rattle.ac_coding.proofs.OneOfValues.{one_of_values}
 use Rattle.ac_coding.proofs.Values.{are_quantised}
 

@@ -1,7 +1,7 @@
 -- The parts of a frame depend on the pointers at the bins of the spans alone.
 use Rattle.std.proofs.Common.{◌≡◌, ℕ, zero, suc, ◌+◌, ◌-◌, ◌<◌, ◌≤◌, Bool, List, Option, refl, ap, ap₂, sym, ◌∙◌, arith}
 use Rattle.ac_base.specs.declared.spans.Span.{Span}
-use Rattle.ac_base.specs.Counts.{Tally, none, joined, exact_of}
+use Rattle.ac_base.specs.Counts.{none, joined, exact_of}
 use Rattle.ac_base.specs.Fit.{tally_span, tally_channels, exponents_in, mantissas_in, block_cost, parts_of, FitIn}
 use Rattle.ac_base.specs.Shape.{coded_of, span_of}
 use Rattle.ac_base.specs.SideBits.{side_front, side_total}

@@ -1,11 +1,11 @@
 -- The run of a coded channel that has a block.
-use Rattle.std.proofs.Common.{◌≡◌, ℕ, ◌+◌, ◌<◌, ◌≤◌, List, [], ◌∷◌, slice_index, refl, sym, ap, ◌∙◌, inl, inr, subst, arith}
+use Rattle.std.proofs.Common.{◌≡◌, ℕ, ◌+◌, ◌<◌, ◌≤◌, List, [], ◌∷◌, slice_index, refl, ap, ◌∙◌, inl, inr, subst, arith}
 use Rattle.std.specs.List.{AllByRecursion}
 use Rattle.std.proofs.lemmas.Bool.{cases_lt}
 use Rattle.std.proofs.lemmas.List.Elements.{recursion_from_All}
 use Rattle.ac_base.specs.declared.runs.Run.{Run}
 use Rattle.ac_base.specs.declared.shapes.Shape.{Shape}
-use Rattle.ac_base.specs.Words.{IsStretch, IsWord, Tile, runs_of, word_of}
+use Rattle.ac_base.specs.Words.{IsStretch, Tile, runs_of, word_of}
 use Rattle.ac_base.proofs.Stretches.{tile, are_stretches}
 use Rattle.ac_expo.specs.Raw.{channels}
 use Rattle.ac_cost.specs.Runs.{IsRunOf, IsAssignmentOf, run_with}

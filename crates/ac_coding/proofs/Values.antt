@@ -1,5 +1,5 @@
 -- The values that are handed in are what a frame is asked to have.
-use Rattle.std.proofs.Common.{◌≡◌, ℕ, ◌+◌, ◌*◌, ◌^◌, ◌<◌, ◌≤◌, ℤ, unsigned_abs, Bool, List, [], slice_index, slice_index_or, refl, ap, ap₂, sym, subst, ◌∙◌, arith}
+use Rattle.std.proofs.Common.{◌≡◌, ℕ, ◌*◌, ◌^◌, ◌<◌, ◌≤◌, ℤ, unsigned_abs, Bool, List, [], slice_index, slice_index_or, ap, ap₂, sym, subst, ◌∙◌}
 use Rattle.std.specs.Prelude.{◌==◌}
 use Rattle.ac_base.specs.declared.shapes.Shape.{Shape}
 use Rattle.ac_base.specs.Fit.{FitIn, parts_of}
@@ -11,20 +11,20 @@ use Rattle.ac_expo.specs.declared.word.Assign.{Assign}
 use Rattle.ac_expo.specs.Greatest.{IsSpellable}
 use Rattle.ac_expo.specs.Raw.{channel_span, channels, AreRaw, AreSmall}
 use Rattle.ac_joint.specs.declared.Coordinates.{Coordinates}
-use Rattle.ac_mant.specs.Quantiser.{IsCode, code_of}
+use Rattle.ac_mant.specs.Quantiser.{IsCode}
 use Rattle.ac_record.specs.Readings.{cell}
 use Rattle.ac_cost.specs.Parts.{FitsAt}
 use Rattle.ac_cost.specs.Pointers.{pointers}
 use Rattle.ac_cost.specs.Runs.{IsAssignmentOf}
-use Rattle.ac_sent.specs.Asked.{IsQuantised, IsSizeCode}
+use Rattle.ac_sent.specs.Asked.{IsSizeCode}
 use Rattle.ac_sent.specs.Fields.{coordinate_at}
 use Rattle.ac_sent.specs.Values.{Quantised}
 use Rattle.ac_coding.specs.Asked.{AreRawOf, IsAsked}
 use Rattle.ac_coding.specs.Laws.{ValuesAreQuantised}
 use Rattle.ac_coding.specs.Rows.{code_by, exponent_by}
-use Rattle.ac_coding.specs.Values.{Coefficients, entry, row_at, in_spans, run_at, exponent_at, exponents, pointer_by, codes, values_of}
+use Rattle.ac_coding.specs.Values.{Coefficients, entry, in_spans, run_at, exponent_at, exponents, pointer_by, codes, values_of}
 use Rattle.ac_coding.proofs.CodesOfPointers.{pointer_small, code_is}
-use Rattle.ac_coding.proofs.Entries.{cell_of_spans, row_entry}
+use Rattle.ac_coding.proofs.Entries.{cell_of_spans}
 use Rattle.ac_coding.proofs.GreatestRows.{exponents_are, exponents_row, exponents_cell, row_greatest, coded_below, rows_kept, pointers_are}
 use Rattle.ac_coding.proofs.Parts.{fits_same}
 use Rattle.ac_coding.proofs.RunsOfBlocks.{run_sends}

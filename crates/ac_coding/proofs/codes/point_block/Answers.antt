@@ -1,4 +1,4 @@
-use Rattle.std.proofs.Common.{sym, ◌∙◌, arith}
+use Rattle.std.proofs.Common.{arith}
 use Rattle.ac_coding.proofs.Written.{code_read, pointers_kept}
 use Rattle.ac_coding.proofs.codes.point_block.Goals as goal
 
