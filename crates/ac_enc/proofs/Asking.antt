@@ -1,5 +1,5 @@
 -- The coefficients of a mono frame are what is asked of a frame's.
-use Rattle.std.proofs.Common.{◌≡◌, ℕ, ◌+◌, ◌*◌, ◌<◌, ◌≤◌, ◌^◌, List, [], ℤ, pos, slice_index_or, ap, sym, subst, ◌∙◌, arith}
+use Rattle.std.proofs.Common.{◌≡◌, ℕ, ◌+◌, ◌*◌, ◌<◌, List, [], ℤ, slice_index_or, ap, sym, subst, ◌∙◌, arith}
 use Rattle.ac_base.specs.declared.shapes.Shape.{Shape}
 use Rattle.ac_base.specs.Shape.{subbands}
 use Rattle.ac_base.specs.Window.{window_of}
@@ -13,7 +13,7 @@ use Rattle.ac_plan.specs.Plans.{IsLawful}
 use Rattle.ac_sent.specs.Asked.{IsSizeCode}
 use Rattle.ac_coding.specs.Asked.{AreRawOf, IsAsked}
 use Rattle.ac_coding.specs.Laws.{Agree}
-use Rattle.ac_coding.specs.Values.{Coefficients, entry}
+use Rattle.ac_coding.specs.Values.{entry}
 use Rattle.ac_enc.specs.Frame.{IsMonoShape, AreTransformed, coefficient_at, coefficients, no_coordinates}
 use Rattle.ac_enc.proofs.Fitting.{one_channel}
 

@@ -1,17 +1,14 @@
 -- The cheapest assignment fits each frame with one channel at offset 0: D45 exponents of 159 bits at most, beside 110 side bits in the
 -- front and 168 in the frame, and no mantissas (A/52 5.3). The smallest frame has 64 words.
-use Rattle.std.proofs.Common.{◌≡◌, ℕ, ◌+◌, ◌-◌, ◌*◌, ◌/◌, ◌<◌, ◌≤◌, Bool, false, Option, None, List, [], ◌∷◌, slice_index, refl, sym, ap, subst, ◌∙◌, arith}
+use Rattle.std.proofs.Common.{◌≡◌, ℕ, ◌+◌, ◌*◌, ◌≤◌, Bool, false, Option, None, List, refl, ap, subst, ◌∙◌, arith}
 use Rattle.ac_base.specs.declared.shapes.Shape.{Shape}
-use Rattle.ac_base.specs.declared.sizes.Parts.{Parts}
-use Rattle.ac_base.specs.Fit.{FitIn, exponent_bits, exponents_in, side_of, list_bits}
+use Rattle.ac_base.specs.Fit.{FitIn, exponents_in, side_of}
 use Rattle.ac_base.specs.Shape.{coded_of, free_span, span_of}
 use Rattle.ac_base.specs.SideBits.{side_front, side_total}
 use Rattle.ac_base.specs.Sigma.{sum_below}
-use Rattle.ac_base.specs.Sizes.{front_room}
 use Rattle.ac_base.specs.Spans.{groups_of}
-use Rattle.ac_base.specs.declared.spans.Lead.TheVariants.{Free}
 use Rattle.ac_expo.specs.Raw.{channels, channel_span}
-use Rattle.ac_cost.specs.Parts.{parts_at, FitsAt, cheapest_assign, cheapest_words}
+use Rattle.ac_cost.specs.Parts.{FitsAt, cheapest_assign, cheapest_words}
 use Rattle.ac_cost.proofs.Fewest.{cheapest-is}
 use Rattle.ac_enc.specs.Frame.{IsMonoShape}
 

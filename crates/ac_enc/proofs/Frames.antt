@@ -1,5 +1,5 @@
 -- What holds of each frame.
-use Rattle.std.proofs.Common.{◌≡◌, ℕ, ◌+◌, ◌-◌, ◌*◌, ◌/◌, ◌<◌, ◌≤◌, List, length, take, drop, ℤ, refl, ap, sym, subst, ◌∙◌, arith}
+use Rattle.std.proofs.Common.{◌≡◌, ℕ, ◌+◌, ◌*◌, ◌/◌, ◌≤◌, List, length, take, drop, ℤ, refl, ap, sym, subst, ◌∙◌, arith}
 use Rattle.ac_base.specs.declared.shapes.Shape.{Shape}
 use Rattle.ac_base.specs.Rates.{IsRate}
 use Rattle.ac_base.specs.Sizes.{frame_words_of, front_room}
@@ -11,9 +11,7 @@ use Rattle.ac_plan.specs.declared.answer.Mark.TheVariants.{Best, Bounded}
 use Rattle.ac_plan.specs.declared.answer.Plan.{Plan}
 use Rattle.ac_record.specs.Laws.{AreBytes}
 use Rattle.ac_record.specs.CrcParts.{front_part, all_part}
-use Rattle.ac_record.specs.Records.{words_of}
 use Rattle.ac_sent.specs.Asked.{IsSizeCode}
-use Rattle.ac_sent.specs.Fields.{sent_head}
 use Rattle.ac_sent.specs.Packed.{sent_record, IsPacked}
 use Rattle.ac_sent.specs.Values.{Quantised}
 use Rattle.ac_words.specs.declared.meaning.Options.{Options}

@@ -1,5 +1,5 @@
 -- Bytes 4 to 7 of a frame are told by its shape and the code of its size, whatever its plan (A/52 5.3.1, 5.3.2).
-use Rattle.std.proofs.Common.{◌≡◌, ℕ, zero, suc, ◌+◌, ◌*◌, ◌<◌, ◌≤◌, ◌^◌, Bool, false, List, [], ◌∷◌, ◌++◌, length, take, drop, slice_index, sum, refl, ap, sym, subst, ◌∙◌, ℤ, arith}
+use Rattle.std.proofs.Common.{◌≡◌, ℕ, zero, suc, ◌<◌, ◌≤◌, ◌^◌, Bool, List, [], ◌∷◌, ◌++◌, length, take, drop, sum, refl, ap, sym, subst, ◌∙◌, ℤ, arith}
 use Rattle.std.proofs.lemmas.List.{length-drop, drop-append-le, take-append-le}
 use Rattle.ac_base.specs.declared.shapes.Shape.{Shape}
 use Rattle.ac_base.specs.Rates.{IsRate}
@@ -12,10 +12,9 @@ use Rattle.ac_record.specs.Laws.{AreBytes}
 use Rattle.ac_record.specs.Records.{record_spelled, blocks_spelled, tail_spelled}
 use Rattle.ac_record.proofs.Leading.{head_is}
 use Rattle.ac_rows.specs.HeadRows.{layout, layout_rows, service, head_fields, whole_head}
-use Rattle.ac_rows.specs.Filled.{listed}
 use Rattle.ac_sent.specs.Asked.{IsSizeCode}
-use Rattle.ac_sent.specs.Fields.{sent_head, parts_at}
-use Rattle.ac_sent.specs.Packed.{sent_part, sent_record, IsPacked}
+use Rattle.ac_sent.specs.Fields.{sent_head}
+use Rattle.ac_sent.specs.Packed.{sent_record, IsPacked}
 use Rattle.ac_sent.specs.Values.{Quantised}
 use Rattle.ac_sent.proofs.SizeCodes.{one_code}
 use Rattle.ac_sent.proofs.Sizes.{head_length}

@@ -1,5 +1,5 @@
 -- The last samples of a frame have as many bits as the others.
-use Rattle.std.proofs.Common.{◌≡◌, ℕ, ◌+◌, ◌-◌, ◌^◌, ◌≤◌, ◌<◌, List, ap, sym, subst, ◌∙◌, arith, ℤ, pos, slice_index_or, unsigned_abs, drop}
+use Rattle.std.proofs.Common.{◌≡◌, ℕ, ◌+◌, ◌^◌, ◌≤◌, ◌<◌, List, ap, sym, subst, ◌∙◌, arith, ℤ, pos, slice_index_or, unsigned_abs, drop}
 use Rattle.std.specs.Prelude.{slice_range}
 use Rattle.std.proofs.lemmas.List.{get_or-drop, get_or-take}
 use Rattle.ac_base.specs.Sigma.{Within}

@@ -1,6 +1,6 @@
 -- The frames of a mono sound (A/52 5.3): the shape and the coefficients of each, a lawful plan of it, and the frame by that plan.
 -- The sound of a frame is the 256 places before it, and its own 1,536 (A/52 8.2.3).
-use Rattle.std.specs.Prelude.{◌≡◌, ℕ, zero, suc, nat_eq, if◌then◌else◌, ◌+◌, ◌-◌, ◌*◌, ◌<◌, ◌≤◌, min, Bool, false, replicate, List, [], ◌++◌, slice_index_or, ℤ, pos, Option, Some, None}
+use Rattle.std.specs.Prelude.{◌≡◌, ℕ, zero, suc, nat_eq, if◌then◌else◌, ◌+◌, ◌-◌, ◌*◌, ◌<◌, min, Bool, false, replicate, List, [], ◌++◌, slice_index_or, ℤ, pos, Option, Some, None}
 use Rattle.ac_base.specs.declared.shapes.Shape.{Shape}
 use Rattle.ac_base.specs.Sizes.{frame_words_of, table_words}
 use Rattle.ac_base.specs.Window.{window_of}

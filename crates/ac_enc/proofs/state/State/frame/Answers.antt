@@ -1,4 +1,4 @@
-use Rattle.std.proofs.Common.{[], ◌∙◌, slice_index_or, take, rules}
+use Rattle.std.proofs.Common.{[], ◌∙◌, slice_index_or, take}
 use Rattle.ac_enc.specs.Frame.{joined}
 use Rattle.ac_enc.proofs.Made.{shape_sized, frame_made, coded_mono}
 use Rattle.ac_enc.proofs.Last.{last_bound}
