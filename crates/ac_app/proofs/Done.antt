@@ -19,7 +19,7 @@ use Rattle.ac_app.proofs.Laws.{size}
 -- ---- the options that the words ask for
 
 asked_rate : (ws : List Text) (o : Options) → AsksEncode ws o → IsRate o.rate
-asked_rate ws o a = is_lawful ws (Encode o) a
+asked_rate ws o a = (is_lawful ws (Encode o) a).rate
 
 same_options : (o p : Options) (n m : LastWords) → encode o n ≡ encode p m → o ≡ p
 same_options o p n m e = cc

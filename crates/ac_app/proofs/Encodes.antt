@@ -1,6 +1,7 @@
 -- From the head and the frames to the command encode.
-use Rattle.std.proofs.Common.{◌≡◌, ℕ, List, Option, refl, ap, sym, subst, arith, inl, inr, Result, Ok, Err}
+use Rattle.std.proofs.Common.{◌≡◌, ℕ, List, Option, refl, ap, sym, subst, ◌∙◌, arith, inl, inr, Result, Ok, Err}
 use Rattle.std.specs.Prelude.{MatchResult}
+use Rattle.ac_enc.specs.Encoding.{Encoding, at_first}
 use Rattle.ac_io.specs.Within.{TakesAtMost}
 use Rattle.ac_riff.specs.declared.fault.WavFault.{WavFault}
 use Rattle.ac_riff.specs.declared.fault.WavFault.TheVariants as wav
@@ -63,6 +64,21 @@ leaves_so : (o : Options) (end : Result (Unit {0}) Stop) (bytes : List ℕ) (a b
 leaves_so o (Ok _) bytes a b s new e = encodes_from o bytes a b s new e
 leaves_so o (Err (stops.Input fault)) bytes a b s new e = stops_in o fault bytes a b s new e
 leaves_so o (Err (stops.Sink broken)) bytes a b s new e = breaks_from o bytes a b s new e
+
+-- ---- the encoder that was made
+
+-- it stands at its first frame
+pub at_first_by : (o : Options) (fscod : ℕ) (e : Encoding) → e ≡ at_first o fscod → e ≡ at_first e.options fscod
+at_first_by o fscod e is = is ∙ ap (λ (p : Options). at_first p fscod) (sym (ap (λ (d : Encoding). d.options) is))
+
+-- and has the options that it was made with
+pub by_options : (o : Options) (fscod : ℕ) (e : Encoding) (end : Result (Unit {0}) Stop) (bytes : List ℕ) (old new : World) → e ≡ at_first o fscod
+    → MatchResult end (λ _. Encodes e.options bytes old new) (λ stop. StopLeaves e.options stop bytes old new)
+    → MatchResult end (λ _. Encodes o bytes old new) (λ stop. StopLeaves o stop bytes old new)
+by_options o fscod e end bytes old new is told =
+    subst (λ (p : Options). MatchResult end (λ _. Encodes p bytes old new) (λ stop. StopLeaves p stop bytes old new)) (ap (λ (d : Encoding). d.options) is) told
+
+-- ---- the end
 
 pub ended_leaves : (o : Options) (end : Result (Unit {0}) Stop) (status : Status) (bytes : List ℕ) (a b : Told) (s : Sinks) (new : World) → status ≡ ended_status end
     → MatchResult end (λ _. Encodes o bytes (with b s) new) (λ stop. StopLeaves o stop bytes (with b s) new) → EncodeLeaves o status bytes (with a s) new

@@ -16,7 +16,8 @@ use Rattle.ac_riff.proofs.Endings as heads
 use Rattle.ac_riff.proofs.Each as heads_each
 use Rattle.ac_wav.proofs.Whole.{wav_never_both, wav_one_refusal, each_within, never_ends_and_needs, never_refused_and_needs}
 use Rattle.ac_riff.proofs.Fronts.{head_cut}
-use Rattle.ac_app.specs.Input.{limit, IsMono, IsOther, IsInput, HasNoOther, IsNotYet, IsRefused, IsTooLong}
+use Rattle.ac_enc.specs.Frame.{IsMono}
+use Rattle.ac_app.specs.Input.{limit, IsOther, IsInput, HasNoOther, IsNotYet, IsRefused, IsTooLong}
 use Rattle.ac_app.specs.Run.{EncodeHasCause}
 use Rattle.ac_app.specs.Loop.{unread_status}
 

@@ -1,9 +1,9 @@
 -- From the words and the command to the job.
-use Rattle.std.proofs.Common.{◌≡◌, ℕ, List, Option, Some, None, refl, sym, subst}
-use Rattle.std.specs.Prelude.{codes}
-use Rattle.ac_base.specs.Rates.{IsRate}
-use Rattle.ac_words.specs.Grammar.{Text, InGrammar, RateOf, value_in}
+use Rattle.std.proofs.Common.{◌≡◌, ℕ, List, refl, sym, subst}
+use Rattle.ac_words.specs.Grammar.{Text, InGrammar}
 use Rattle.ac_words.specs.Asked.{GivesCommand, meaning_of}
+use Rattle.ac_words.specs.Lawful.{IsWithinBounds}
+use Rattle.ac_words.proofs.Said.{within_bounds}
 use Rattle.ac_words.specs.declared.meaning.Command.{Command}
 use Rattle.ac_words.specs.declared.meaning.Command.TheVariants.{Encode}
 use Rattle.ac_words.specs.declared.meaning.Options.{Options}
@@ -15,12 +15,11 @@ use Rattle.ac_app.specs.Run.{EncodeLeaves, IsLawful, CommandLeaves, CommandHasCa
 pub in_grammar : (ws : List Text) (c : Command) → GivesCommand ws c → InGrammar ws
 in_grammar ws c h = (meaning_of c h.0, h.1)
 
-rate_in : (value : Option Text) (rate : ℕ) → RateOf value rate → IsRate rate
-rate_in None rate h = absurd h
-rate_in (Some text) rate h = h.1
+pub lawful_by : (c : Command) → IsWithinBounds c → IsLawful c
+lawful_by (Encode o) h = h
 
 pub is_lawful : (ws : List Text) (c : Command) → GivesCommand ws c → IsLawful c
-is_lawful ws (Encode o) h = rate_in (value_in (codes "rate") h.1.2.pairs) o.rate h.1.2.says.rate_is
+is_lawful ws c h = lawful_by c (within_bounds ws c h)
 
 pub job_leaves : (ws : List Text) (c : Command) (status : Status) (bytes : List ℕ) (old new : World) → GivesCommand ws c → (status ≡ statuses.Usage → ⊥) → CommandLeaves c status bytes old new → JobLeaves ws status bytes old new
 job_leaves ws c statuses.Ok bytes old new g not l = (c, g, l)

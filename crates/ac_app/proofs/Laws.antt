@@ -5,11 +5,14 @@ use Rattle.std.proofs.Math.Seq.{drop-append_seam}
 use Rattle.std.proofs.lemmas.Bool.{cases_lt, lt-ltb}
 use Rattle.std.proofs.lemmas.List.{append-nil, take-append-le, take_all}
 use Rattle.ac_base.specs.Rates.{IsRate}
-use Rattle.ac_frame.specs.Plain.{AreBytes}
+use Rattle.ac_plan.specs.declared.answer.Plan.{Plan}
+use Rattle.ac_record.specs.Laws.{AreBytes}
 use Rattle.ac_enc.specs.Frame.{IsFrame}
 use Rattle.ac_enc.proofs.Frames as frames
+use Rattle.ac_enc.proofs.Heads.{heads as same_heads}
 use Rattle.ac_enc.proofs.Places.{frame_same}
 use Rattle.ac_words.specs.declared.meaning.Options.{Options}
+use Rattle.ac_app.specs.Lines.{frame_line}
 use Rattle.ac_app.specs.Sound.{Sound, Continues, sound_at}
 use Rattle.ac_app.specs.Stream.{places, IsFrameAt, IsStream, frame_size, stream_size}
 use Rattle.ac_app.specs.Frames.{Frames, Added}
@@ -21,7 +24,7 @@ pub size : (o : Options) (k : ℕ) (x : Sound) (s lines : List ℕ) → IsRate o
 unfolding IsStream stream_size
 size o zero x s lines is f e = ap length e.0
 size o (suc k) x s lines is f (front, frame, said, line, p, w, e, g) =
-    ap length e ∙ (length-append front frame ∙ ap₂ (λ (a b : ℕ). a + b) (size o k x front said is f p) (frames.size o.rate x.fscod k (places x 0 k) frame is f w.is_frame))
+    ap length e ∙ (length-append front frame ∙ ap₂ (λ (a b : ℕ). a + b) (size o k x front said is f p) (frames.size o x.fscod k (places x 0 k) w.plan frame is f w.is_frame))
 
 -- ---- the first frames, and those behind them
 
@@ -91,7 +94,7 @@ last_at o i x s lines mid said back later is f p e g =
       line = p.3;
       later = later;
       is = p.5;
-      place = in_middle p.0 p.1 back s (stream_size o x i) (frame_size o x i) (size o i x p.0 p.2 is f p.4) (frames.size o.rate x.fscod i (places x 0 i) p.1 is f p.5.is_frame) (e ∙ ap (λ l. l ++ back) p.6);
+      place = in_middle p.0 p.1 back s (stream_size o x i) (frame_size o x i) (size o i x p.0 p.2 is f p.4) (frames.size o x.fscod i (places x 0 i) p.5.plan p.1 is f p.5.is_frame) (e ∙ ap (λ l. l ++ back) p.6);
       report = joins lines said p.3 p.2 later g p.7;
     }
 
@@ -135,8 +138,8 @@ turned x y n same = record {
 
 pub frame_of_each : (o : Options) (i : ℕ) (x y : Sound) (frame line : List ℕ) → Continues x (1536 * (i + 1)) y → IsFrameAt o x i frame line → IsFrameAt o y i frame line
 frame_of_each o i x y frame line same w =
-    let told = frame_same o.rate x.fscod i (places x 0 i) (places y 0 i) frame (λ q below. same_place x y (1536 * (i + 1)) 0 (1536 * i + q) same (omega arith)) w.is_frame in
-    record { is_frame = subst (λ (f : ℕ). IsFrame o.rate f i (places y 0 i) frame) (sym same.fscod) told; is_line = w.is_line }
+    let told = frame_same o x.fscod i (places x 0 i) (places y 0 i) w.plan frame (λ q below. same_place x y (1536 * (i + 1)) 0 (1536 * i + q) same (omega arith)) w.is_frame in
+    record { plan = w.plan; is_frame = subst (λ (f : ℕ). IsFrame o f i (places y 0 i) w.plan frame) (sym same.fscod) told; is_line = w.is_line }
 
 pub told : (o : Options) (k : ℕ) (x y : Sound) (s lines : List ℕ) → Continues x (1536 * k) y → IsStream o x k s lines → IsStream o y k s lines
 unfolding IsStream
@@ -159,4 +162,12 @@ of_each o x k old new f = record {
 
 pub heads : (o : Options) (i : ℕ) (x : Sound) (f line g another : List ℕ) → IsRate o.rate → x.fscod ≤ 2 → AreBytes f → AreBytes g → IsFrameAt o x i f line → IsFrameAt o x i g another
     → take 4 (drop 4 f) ≡ take 4 (drop 4 g)
-heads o i x f line g another is known bf bg p q = ap (λ l. take 4 (drop 4 l)) (frames.one o.rate x.fscod i (places x 0 i) f g is known bf bg p.is_frame q.is_frame)
+heads o i x f line g another is known bf bg p q = same_heads o x.fscod i (places x 0 i) p.plan q.plan f g is known bf bg p.is_frame q.is_frame
+
+-- ---- one frame of a plan
+
+pub one : (o : Options) (i : ℕ) (x : Sound) (f line g another : List ℕ) → IsRate o.rate → x.fscod ≤ 2 → AreBytes f → AreBytes g → (p : IsFrameAt o x i f line) → (q : IsFrameAt o x i g another)
+    → p.plan ≡ q.plan → (f ≡ g) × (line ≡ another)
+one o i x f line g another is known bf bg p q same =
+    let frame = frames.one o x.fscod i (places x 0 i) q.plan f g is known bf bg (subst (λ (a : Plan). IsFrame o x.fscod i (places x 0 i) a f) same p.is_frame) q.is_frame in
+    (frame, p.is_line ∙ (ap₂ (λ (l : List ℕ) (a : Plan). frame_line i (length l) a) frame same ∙ sym q.is_line))

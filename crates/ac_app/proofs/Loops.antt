@@ -4,6 +4,8 @@ use Rattle.std.specs.Prelude.{nat_lt, ◌&&◌, if◌then◌else◌}
 use Rattle.std.proofs.lemmas.Bool.{le-ltb, ne_eqb}
 use Rattle.std.proofs.Math.Nat.{le-div_iff_mul-le, div-lt_iff_lt-mul, add-mul}
 use Rattle.std.proofs.lemmas.Nat.{mul-le}
+use Rattle.ac_enc.specs.Encoding.{Encoding}
+use Rattle.ac_enc.specs.Frame.{IsMono}
 use Rattle.ac_io.specs.Within.{IsAt}
 use Rattle.ac_wav.specs.declared.body.WavBody.{WavBody}
 use Rattle.ac_riff.specs.declared.fault.WavFault.{WavFault}
@@ -20,8 +22,8 @@ use Rattle.ac_app.specs.declared.emit.Broken.{Broken}
 use Rattle.ac_app.specs.declared.frames.Read.{Read}
 use Rattle.ac_app.specs.declared.frames.Stop.TheVariants as stops
 use Rattle.ac_app.specs.declared.work.Work.{Work}
-use Rattle.ac_app.specs.Frames.{RoseAt, Frames, FrameLeaves, FramesLeave, IsLast, IsOwn}
-use Rattle.ac_app.specs.Input.{limit, IsMono, IsBegun, place_behind}
+use Rattle.ac_app.specs.Frames.{RoseAt, Frames, FrameLeaves, FramesLeave, IsLast, IsOwn, first_last}
+use Rattle.ac_app.specs.Input.{limit, IsBegun, place_behind}
 use Rattle.ac_app.specs.Loop.{AllRead, StopLeaves}
 use Rattle.ac_app.specs.Run.{Encodes, Breaks}
 use Rattle.ac_app.specs.Sound.{sound_of, frame_count, frames_of}
@@ -71,16 +73,16 @@ pub own_row : (bytes : List ℕ) (head : WavHead) (before i after n : ℕ) (rows
 own_row bytes head before i after n rows left r = r.rows_are 0 (lit< tt)
 
 -- the data ended
-pub all_read : (o : Options) (bytes : List ℕ) (head : WavHead) (before after i n : ℕ) (work : Work) (old new : World) → IsHead bytes head → after ≤ limit → 1536 * i ≤ sample_count head bytes
-    → IsLast (sound_of head bytes) 0 i work.last → Frames o (sound_of head bytes) i old.sinks new.sinks
-    → SamplesRead bytes head before (1536 * i) after n work.rows new.input.bytes → n < 1536 → AllRead o bytes head (record { frames = i; rest = n }) work old new
-all_read o bytes head before after i n work old new h within some last frames r short =
+pub all_read : (o : Options) (bytes : List ℕ) (head : WavHead) (before after i n : ℕ) (e : Encoding) (work : Work) (old new : World) → e.fscod ≡ head.fscod → IsHead bytes head → after ≤ limit → 1536 * i ≤ sample_count head bytes
+    → IsLast (sound_of head bytes) 0 i (first_last e) → Frames o (sound_of head bytes) i old.sinks new.sinks
+    → SamplesRead bytes head before (1536 * i) after n work.rows new.input.bytes → n < 1536 → AllRead o bytes head (record { frames = i; rest = n }) e work old new
+all_read o bytes head before after i n e work old new known h within some last frames r short =
     let count = r.count in
     record {
       wav = read_within bytes head before (1536 * i) after n limit work.rows new.input.bytes h r short within;
       left = read_left bytes head before (1536 * i) after n work.rows new.input.bytes r short;
       ends = record {
-        fscod_is = refl;
+        fscod_is = sym known;
         count = omega (arith, count, some, short);
         silent = λ c j late. past_end head (sample_count head bytes) (drop head.taken bytes) c j late;
         last = last;
@@ -161,18 +163,18 @@ full_broke o bytes head k after broken old new mid b align rose most e at f w =
     broke o bytes head k broken old new mid b rose (more_than k (sample_count head bytes) most) (behind_full bytes head k after new.input.bytes align most e at) f w
 
 -- a frame behind the full ones failed
-pub rest_broke : (o : Options) (bytes : List ℕ) (head : WavHead) (read : Read) (work : Work) (broken : Broken) (old mid new : World) → IsBegun bytes head → 0 < align_of head
-    → RoseAt broken old.sinks new.sinks → read.rest < 1536 → new.input ≡ mid.input → AllRead o bytes head read work old mid
+pub rest_broke : (o : Options) (bytes : List ℕ) (head : WavHead) (read : Read) (e : Encoding) (work : Work) (broken : Broken) (old mid new : World) → IsBegun bytes head → 0 < align_of head
+    → RoseAt broken old.sinks new.sinks → read.rest < 1536 → new.input ≡ mid.input → AllRead o bytes head read e work old mid
     → FramesLeave o (sound_of head bytes) read.frames (frames_of (sound_of head bytes)) (Err broken) old.sinks new.sinks → StopLeaves o (stops.Sink broken) bytes old new
-rest_broke o bytes head read work broken old mid new b align rose few same a (k, least, below, (between, f, w)) =
+rest_broke o bytes head read e work broken old mid new b align rose few same a (k, least, below, (between, f, w)) =
     let count = a.ends.count in
     let left = ap (λ (t : Told). t.bytes) same ∙ a.left in
     broke o bytes head k broken old new between b rose below (behind_rest bytes head k new.input.bytes align (omega (arith, count, few, least)) left) f w
 
 -- all frames were added
-pub encodes : (o : Options) (bytes : List ℕ) (head : WavHead) (read : Read) (work : Work) (old mid new : World) → IsMono head → new.input ≡ mid.input → AllRead o bytes head read work old mid
+pub encodes : (o : Options) (bytes : List ℕ) (head : WavHead) (read : Read) (e : Encoding) (work : Work) (old mid new : World) → IsMono head → new.input ≡ mid.input → AllRead o bytes head read e work old mid
     → Frames o (sound_of head bytes) (frames_of (sound_of head bytes)) old.sinks new.sinks → Encodes o bytes old new
-encodes o bytes head read work old mid new mono same a f =
+encodes o bytes head read e work old mid new mono same a f =
     record {
       head = head;
       input = record { wav = a.wav; mono = mono };

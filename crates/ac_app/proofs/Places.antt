@@ -1,18 +1,20 @@
 -- The places of a frame, and those of the next.
-use Rattle.std.proofs.Common.{◌≡◌, ℕ, suc, ◌+◌, ◌-◌, ◌*◌, ◌/◌, ◌^◌, ◌≤◌, ◌<◌, Bool, List, [], ◌++◌, length, drop, Option, Some, None, Result, Ok, Err, refl, ap, sym, subst, ◌∙◌, arith, inl, inr, ℤ, pos, slice_index_or, unsigned_abs, replicate, lit≤}
+use Rattle.std.proofs.Common.{◌≡◌, ℕ, suc, ◌+◌, ◌-◌, ◌*◌, ◌/◌, ◌^◌, ◌≤◌, ◌<◌, Bool, List, [], ◌++◌, length, drop, Option, Some, None, Result, Ok, Err, refl, ap, sym, subst, ◌∙◌, arith, inl, inr, ℤ, pos, slice_index_or, unsigned_abs, replicate, lit≤, lit<}
 use Rattle.std.specs.Prelude.{slice_range, if◌then◌else◌}
 use Rattle.std.proofs.lemmas.Bool.{cases_eq, cases_lt, lt-ltb, le-ltb, ne_eqb}
-use Rattle.std.proofs.lemmas.List.{append-nil, get_or_append_left, get_or-append-add, get_or-drop, get_or-take, get_or-replicate}
+use Rattle.std.proofs.lemmas.List.{append-nil, get_or_append_left, get_or-append-add, get_or-drop, get_or-take, get_or-replicate, length-drop, length-take-le, length-replicate}
 use Rattle.ac_base.specs.Sigma.{Within}
+use Rattle.ac_enc.specs.Encoding.{Encoding, at_first}
 use Rattle.ac_enc.specs.Frame.{IsFrame, joined}
 use Rattle.ac_io.specs.Outside.{Adds}
 use Rattle.ac_io.proofs.Written.{adds_both}
 use Rattle.ac_enc.proofs.Places.{frame_same}
+use Rattle.ac_plan.specs.declared.answer.Plan.{Plan}
 use Rattle.ac_words.specs.declared.meaning.Options.{Options}
 use Rattle.ac_app.specs.Sound.{Sound, sound_at, frame_count}
 use Rattle.ac_app.specs.Lines.{frame_line}
 use Rattle.ac_app.specs.Stream.{places, IsStream}
-use Rattle.ac_app.specs.Frames.{Frames, Emits, IsLast, IsOwn, FrameLeaves, FramesLeave}
+use Rattle.ac_app.specs.Frames.{Frames, Emits, IsLast, IsOwn, FrameLeaves, FramesLeave, first_last, StandsAt}
 use Rattle.ac_app.specs.World.{Sinks}
 use Rattle.ac_app.specs.declared.emit.Broken.{Broken}
 
@@ -29,9 +31,6 @@ in_sound s c p j e =
 
 zeros_at : (last : List ℤ) → last ≡ replicate 256 (pos 0) → (p : ℕ) → p < 256 → slice_index_or last p (pos 0) ≡ pos 0
 zeros_at last zeros p below = ap (λ l. slice_index_or l p (pos 0)) zeros ∙ get_or-replicate 256 p (pos 0) (pos 0) below
-
-pub silent_bound : (last : List ℤ) → last ≡ replicate 256 (pos 0) → Within (2 ^ 23) 256 last
-silent_bound last zeros p below = subst (λ (z : ℤ). unsigned_abs z ≤ 2 ^ 23) (sym (zeros_at last zeros p below)) (lit≤ tt)
 
 pub silent : (s : Sound) (c : ℕ) (last : List ℤ) → last ≡ replicate 256 (pos 0) → IsLast s c 0 last
 silent s c last zeros p below = zeros_at last zeros p below ∙ sym (before_sound s c (1536 * 0 + p) (omega arith))
@@ -51,10 +50,10 @@ joined_places s c i last pcm long before own p below =
           ∙ (get_or-append-add last pcm (p - 256) (pos 0) ∙ own_place s c i p (p - 256) pcm (omega arith) (omega arith) own)
     ]
 
-pub frame_told : (rate fscod : ℕ) (s : Sound) (i : ℕ) (last pcm : List ℤ) (frame : List ℕ) → length last ≡ 256 → IsLast s 0 i last → IsOwn s 0 i pcm
-    → IsFrame rate fscod i (joined last pcm) frame → IsFrame rate fscod i (places s 0 i) frame
-frame_told rate fscod s i last pcm frame long before own is =
-    frame_same rate fscod i (joined last pcm) (places s 0 i) frame (joined_places s 0 i last pcm long before own) is
+pub frame_told : (o : Options) (fscod : ℕ) (s : Sound) (i : ℕ) (last pcm : List ℤ) (plan : Plan) (frame : List ℕ) → length last ≡ 256 → IsLast s 0 i last → IsOwn s 0 i pcm
+    → IsFrame o fscod i (joined last pcm) plan frame → IsFrame o fscod i (places s 0 i) plan frame
+frame_told o fscod s i last pcm plan frame long before own is =
+    frame_same o fscod i (joined last pcm) (places s 0 i) plan frame (joined_places s 0 i last pcm long before own) is
 
 from_range : (pcm : List ℤ) (p : ℕ) → p < 256 → slice_index_or (slice_range pcm 1280 1536) p (pos 0) ≡ slice_index_or pcm (1280 + p) (pos 0)
 from_range pcm p below = get_or-take 256 (drop 1280 pcm) p (pos 0) below ∙ get_or-drop 1280 pcm p (pos 0)
@@ -66,22 +65,51 @@ last_next s c i pcm last same own p below =
     ∙ (from_range pcm p below
     ∙ (own_place s c i (1536 + p) (1280 + p) pcm (omega arith) (omega arith) own ∙ sym (ap (sound_at s c) at)))
 
-pub last_bound : (pcm last : List ℤ) → last ≡ slice_range pcm 1280 1536 → Within (2 ^ 23) 1536 pcm → Within (2 ^ 23) 256 last
-last_bound pcm last same within p below =
-    let e : slice_index_or last p (pos 0) ≡ slice_index_or pcm (1280 + p) (pos 0) = ap (λ l. slice_index_or l p (pos 0)) same ∙ from_range pcm p below in
-    subst (λ (z : ℤ). unsigned_abs z ≤ 2 ^ 23) (sym e) (within (1280 + p) (omega arith))
+-- the last samples of a row are 256
+pub last_long : (pcm last : List ℤ) → length pcm ≡ 1536 → last ≡ slice_range pcm 1280 1536 → length last ≡ 256
+last_long pcm last long same =
+    let behind = length-drop 1280 pcm in
+    ap length same ∙ length-take-le 256 (drop 1280 pcm) (omega (arith, behind, long))
+
+-- ---- the encoder
+
+first_zeros : (o : Options) (fscod : ℕ) (e : Encoding) → e ≡ at_first o fscod → first_last e ≡ replicate 256 (pos 0)
+first_zeros o fscod e is = ap first_last is ∙ get_or-replicate 6 0 (replicate 256 (pos 0)) [] (lit< tt)
+
+pub silent_first : (s : Sound) (o : Options) (fscod : ℕ) (e : Encoding) → e ≡ at_first o fscod → IsLast s 0 0 (first_last e)
+silent_first s o fscod e is = silent s 0 (first_last e) (first_zeros o fscod e is)
+
+pub stands_first : (o : Options) (fscod : ℕ) (e : Encoding) → e ≡ at_first o fscod → StandsAt o fscod 0 e
+stands_first o fscod e is = record {
+  options = ap (λ (d : Encoding). d.options) is;
+  fscod_is = ap (λ (d : Encoding). d.fscod) is;
+  number = ap (λ (d : Encoding). d.frames) is;
+  long = ap length (first_zeros o fscod e is) ∙ length-replicate 256 (pos 0);
+}
+
+pub stands_by : (o p : Options) (f g i : ℕ) (e : Encoding) → o ≡ p → f ≡ g → StandsAt o f i e → StandsAt p g i e
+stands_by o p f g i e same known s = record {
+  options = s.options ∙ same;
+  fscod_is = s.fscod_is ∙ known;
+  number = s.number;
+  long = s.long;
+}
 
 -- ---- one frame
 
-pub frame_leaves : (o : Options) (fscod : ℕ) (s : Sound) (i : ℕ) (result : Result (Unit {0}) Broken) (old new : Sinks) (frame : List ℕ)
-    → s.fscod ≡ fscod → IsFrame o.rate fscod i (places s 0 i) frame → Emits frame (frame_line i (length frame)) result old new → FrameLeaves o s i result old new
-frame_leaves o fscod s i result old new frame same is emits =
+pub frame_leaves : (o : Options) (fscod : ℕ) (s : Sound) (n i : ℕ) (plan : Plan) (result : Result (Unit {0}) Broken) (old new : Sinks) (frame : List ℕ)
+    → n ≡ i → s.fscod ≡ fscod → IsFrame o fscod n (places s 0 n) plan frame → Emits frame (frame_line i (length frame) plan) result old new → FrameLeaves o s i result old new
+frame_leaves o fscod s n i plan result old new frame at same is emits =
+    let here = subst (λ (m : ℕ). IsFrame o fscod m (places s 0 m) plan frame) at is in
     record {
       frame = frame;
-      line = frame_line i (length frame);
-      is_frame = record { is_frame = subst (λ (f : ℕ). IsFrame o.rate f i (places s 0 i) frame) (sym same) is; is_line = refl };
+      line = frame_line i (length frame) plan;
+      is_frame = record { plan = plan; is_frame = subst (λ (f : ℕ). IsFrame o f i (places s 0 i) plan frame) (sym same) here; is_line = refl };
       emits = emits;
     }
+
+pub leaves_by : (o p : Options) (s : Sound) (i : ℕ) (result : Result (Unit {0}) Broken) (old new : Sinks) → o ≡ p → FrameLeaves o s i result old new → FrameLeaves p s i result old new
+leaves_by o p s i result old new same w = subst (λ (q : Options). FrameLeaves q s i result old new) same w
 
 -- ---- the frames
 
@@ -135,3 +163,14 @@ behind_last s c i row silent past zeros t below =
 pub zeros_within : (row : List ℤ) (n : ℕ) → row ≡ replicate n (pos 0) → Within (2 ^ 23) n row
 zeros_within row n zeros p below =
     subst (λ (z : ℤ). unsigned_abs z ≤ 2 ^ 23) (sym (ap (λ l. slice_index_or l p (pos 0)) zeros ∙ get_or-replicate n p (pos 0) (pos 0) below)) (lit≤ tt)
+
+-- ---- the frames of an encoder that was used before
+
+-- what it adds by its own options it adds by those that it was made with
+pub all_by : (o p : Options) (s : Sound) (k count : ℕ) (old mid new : Sinks) → p ≡ o → Frames o s k old mid → (Frames p s k old mid → Frames p s count old new) → Frames o s count old new
+all_by o p s k count old mid new same f all = subst (λ (q : Options). Frames q s count old new) same (all (subst (λ (q : Options). Frames q s k old mid) (sym same) f))
+
+pub front_by : (o p : Options) (s : Sound) (k count : ℕ) (broken : Broken) (old mid new : Sinks) → p ≡ o → Frames o s k old mid
+    → (Frames p s k old mid → FramesLeave p s k count (Err broken) old new) → FramesLeave o s k count (Err broken) old new
+front_by o p s k count broken old mid new same f front =
+    subst (λ (q : Options). FramesLeave q s k count (Err broken) old new) same (front (subst (λ (q : Options). Frames q s k old mid) (sym same) f))

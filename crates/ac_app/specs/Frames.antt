@@ -1,6 +1,7 @@
 -- What the frames of a sound leave in the output and the report: this project's own rules, over the sync frames of A/52 5.3.
-use Rattle.std.specs.Prelude.{◌≡◌, ℕ, ◌+◌, ◌*◌, ◌<◌, ◌≤◌, List, [], slice_index_or, Result, Ok, Err, ℤ}
+use Rattle.std.specs.Prelude.{◌≡◌, ℕ, ◌+◌, ◌*◌, ◌<◌, ◌≤◌, List, [], length, slice_index_or, Result, Ok, Err, ℤ}
 use Rattle.ac_base.specs.Sigma.{Lists}
+use Rattle.ac_enc.specs.Encoding.{Encoding}
 use Rattle.ac_io.specs.Outside.{Rose, Adds, AddsFront}
 use Rattle.ac_words.specs.declared.meaning.Options.{Options}
 use Rattle.ac_app.specs.Sound.{Sound, Continues}
@@ -42,6 +43,17 @@ IsOwn s c i row = Lists 1536 (λ t. s.sample c (1536 * i + t)) row
 -- the samples in the first row
 abbrev pub first_row : Work → List ℤ
 first_row work = slice_index_or work.rows 0 []
+
+-- the last samples of the first channel that the encoder keeps
+abbrev pub first_last : Encoding → List ℤ
+first_last e = slice_index_or e.last 0 []
+
+-- an encoder of these options and this sampling code, before frame i
+pub record StandsAt (o : Options) (fscod i : ℕ) (e : Encoding) : Type 0 where
+  pub options : e.options ≡ o
+  pub fscod_is : e.fscod ≡ fscod
+  pub number : e.frames ≡ i
+  pub long : length (first_last e) ≡ 256
 
 -- ---- the frames
 

@@ -1,5 +1,6 @@
--- Which inputs are encoded, and why others are refused: all of it this project's own, but for what acmod and lfeon say.
-use Rattle.std.specs.Prelude.{◌≡◌, ◌⊎◌, ℕ, ◌+◌, ◌*◌, ◌^◌, ◌≤◌, min, false, List}
+-- Which inputs are encoded, and why others are refused: all of it this project's own.
+use Rattle.std.specs.Prelude.{◌≡◌, ◌⊎◌, ℕ, ◌+◌, ◌*◌, ◌^◌, ◌≤◌, min, List}
+use Rattle.ac_enc.specs.Frame.{IsMono}
 use Rattle.ac_riff.specs.declared.fault.WavKind.{WavKind}
 use Rattle.ac_riff.specs.declared.fault.WavKind.TheVariants.{NotYet}
 use Rattle.ac_riff.specs.declared.head.WavHead.{WavHead}
@@ -10,11 +11,6 @@ use Rattle.ac_wav.specs.Whole.{EndsWithin, RefusedWithin, NeedsMore}
 -- the most bytes of an input that are read, but for one byte behind them
 abbrev pub limit : ℕ
 limit = 2 ^ 32 + 2 ^ 20
-
--- one channel, without LFE (A/52 5.4.2.3 and 5.4.2.7): the layout that is encoded so far
-pub record IsMono (head : WavHead) : Type 0 where
-  pub one : head.acmod ≡ 1
-  pub no_lfe : head.lfe ≡ false
 
 -- the input begins with a head of another layout
 pub record IsOther (bytes : List ℕ) (head : WavHead) : Type 0 where

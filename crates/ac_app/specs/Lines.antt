@@ -1,13 +1,22 @@
 -- The report, this project's own: a line for each frame, and the status line. Each line ends with a line feed.
 use Rattle.std.specs.Prelude.{ℕ, List, ◌++◌, codes, decimal}
+use Rattle.ac_plan.specs.declared.answer.Plan.{Plan}
+use Rattle.ac_plan.specs.declared.answer.Mark.{Mark}
+use Rattle.ac_plan.specs.declared.answer.Mark.TheVariants as marks
 use Rattle.ac_riff.specs.declared.fault.WavKind.{WavKind}
 use Rattle.ac_riff.specs.declared.fault.WavKind.TheVariants as kinds
 use Rattle.ac_app.specs.declared.status.Status.{Status}
 use Rattle.ac_app.specs.declared.status.Status.TheVariants as statuses
 
--- `frame I size Z base`: the frame's number, and its size in bytes; base is the plan of offset 0
-abbrev pub frame_line : ℕ → ℕ → List ℕ
-frame_line i size = codes "frame " ++ decimal i ++ codes " size " ++ decimal size ++ codes " base\n"
+-- ` best S`, or ` bounded S U`: the SNR offset of the plan; at no greater one, or at none above U, an assignment fits
+abbrev pub mark_words : Mark → ℕ → List ℕ
+mark_words marks.Best offset = codes " best " ++ decimal offset
+mark_words (marks.Bounded upper) offset = codes " bounded " ++ decimal offset ++ codes " " ++ decimal upper
+
+-- `frame I size Z best S`: the frame's number, its size in bytes, and its plan
+abbrev pub frame_line : ℕ → ℕ → Plan → List ℕ
+frame_line i size plan =
+    codes "frame " ++ decimal i ++ codes " size " ++ decimal size ++ mark_words plan.mark plan.offset ++ codes "\n"
 
 -- the word of a kind of refusal; fields and values aren't printed
 abbrev pub kind_word : WavKind → List ℕ

@@ -1,5 +1,6 @@
 -- What the loop over the frames of an input leaves, and why it stopped: this project's own rules.
 use Rattle.std.specs.Prelude.{◌≡◌, ℕ, ◌+◌, ◌*◌, ◌≤◌, List, length, Some, Result, Ok, Err, pos}
+use Rattle.ac_enc.specs.Encoding.{Encoding}
 use Rattle.ac_io.specs.Outside.{Rose}
 use Rattle.ac_io.specs.Within.{IsAt}
 use Rattle.ac_riff.specs.declared.fault.WavFault.{WavFault}
@@ -13,25 +14,25 @@ use Rattle.ac_app.specs.declared.frames.Stop.TheVariants as stops
 use Rattle.ac_app.specs.declared.status.Status.{Status}
 use Rattle.ac_app.specs.declared.status.Status.TheVariants as statuses
 use Rattle.ac_app.specs.declared.work.Work.{Work}
-use Rattle.ac_app.specs.Frames.{RoseAt, Frames, IsLast, IsOwn, first_row}
+use Rattle.ac_app.specs.Frames.{RoseAt, Frames, IsLast, IsOwn, first_row, first_last}
 use Rattle.ac_app.specs.Input.{limit, IsRefused, IsTooLong}
 use Rattle.ac_app.specs.Run.{StopsIn, Breaks}
 use Rattle.ac_app.specs.Sound.{Sound, sound_of}
 use Rattle.ac_app.specs.World.{World}
 
 -- the sound ends with what was read: so many frames are full, and the samples behind them stand in the first row
-pub record EndsWith (s : Sound) (fscod : ℕ) (read : Read) (work : Work) : Type 0 where
-  pub fscod_is : s.fscod ≡ fscod
+pub record EndsWith (s : Sound) (read : Read) (e : Encoding) (work : Work) : Type 0 where
+  pub fscod_is : s.fscod ≡ e.fscod
   pub count : s.count ≡ 1536 * read.frames + read.rest
   pub silent : (c j : ℕ) → s.count ≤ j → s.sample c j ≡ pos 0
-  pub last : IsLast s 0 read.frames work.last
+  pub last : IsLast s 0 read.frames (first_last e)
   pub row : IsOwn s 0 read.frames (first_row work)
 
 -- the data ended within the limit, and the full frames were added
-pub record AllRead (o : Options) (bytes : List ℕ) (head : WavHead) (read : Read) (work : Work) (old new : World) : Type 0 where
+pub record AllRead (o : Options) (bytes : List ℕ) (head : WavHead) (read : Read) (e : Encoding) (work : Work) (old new : World) : Type 0 where
   pub wav : EndsWithin bytes head limit
   pub left : new.input.bytes ≡ Some (behind head bytes)
-  pub ends : EndsWith (sound_of head bytes) head.fscod read work
+  pub ends : EndsWith (sound_of head bytes) read e work
   pub frames : Frames o (sound_of head bytes) read.frames old.sinks new.sinks
 
 -- why the frames stopped, and what they leave then

@@ -1,6 +1,5 @@
 -- What a run leaves, by its command and its answer, and why each answer came: this project's own rules.
 use Rattle.std.specs.Prelude.{◌≡◌, ◌⊎◌, ℕ, ◌+◌, ◌<◌, Bool, true, false, List, ◌++◌, length, drop, Some}
-use Rattle.ac_base.specs.Rates.{IsRate}
 use Rattle.ac_io.specs.Outside.{Rose, Adds, AddsFront}
 use Rattle.ac_io.specs.Within.{IsAt, TakesAtMost}
 use Rattle.ac_riff.specs.declared.head.WavHead.{WavHead}
@@ -9,6 +8,7 @@ use Rattle.ac_wav.specs.Samples.{FramesTaken}
 use Rattle.ac_wav.specs.Whole.{behind}
 use Rattle.ac_words.specs.Grammar.{Text, InGrammar}
 use Rattle.ac_words.specs.Asked.{GivesCommand}
+use Rattle.ac_words.specs.Lawful.{AreOptions}
 use Rattle.ac_words.specs.declared.meaning.Command.{Command}
 use Rattle.ac_words.specs.declared.meaning.Command.TheVariants.{Encode}
 use Rattle.ac_words.specs.declared.meaning.Options.{Options}
@@ -92,9 +92,9 @@ EncodeHasCause (TooLong most) bytes = IsTooLong bytes × (most ≡ limit)
 
 -- ---- all commands
 
--- the numbers of a command are those of the grammar
+-- the numbers of a command are within their bounds
 abbrev pub IsLawful : Command → Type 0
-IsLawful (Encode o) = IsRate o.rate
+IsLawful (Encode o) = AreOptions o
 
 abbrev pub CommandLeaves : Command → Status → List ℕ → World → World → Type 0
 CommandLeaves (Encode o) status bytes old new = EncodeLeaves o status bytes old new

@@ -2,6 +2,7 @@
 use Rattle.std.specs.Prelude.{◌≡◌, ℕ, zero, suc, ◌+◌, ◌*◌, List, [], ◌++◌, length, ℤ}
 use Rattle.ac_base.specs.Sizes.{frame_words_of}
 use Rattle.ac_enc.specs.Frame.{IsFrame}
+use Rattle.ac_plan.specs.declared.answer.Plan.{Plan}
 use Rattle.ac_words.specs.declared.meaning.Options.{Options}
 use Rattle.ac_app.specs.Lines.{frame_line}
 use Rattle.ac_app.specs.Sound.{Sound, sound_at}
@@ -11,10 +12,11 @@ use Rattle.ac_app.specs.Sound.{Sound, sound_at}
 abbrev pub places : Sound → ℕ → ℕ → ℕ → ℤ
 places s c i p = sound_at s c (1536 * i + p)
 
--- frame i of the sound, and its line. It is that of the first coded channel: other layouts aren't encoded yet
+-- frame i of the sound by a lawful plan, which its line tells. It is that of the first coded channel: other layouts aren't encoded yet
 pub record IsFrameAt (o : Options) (s : Sound) (i : ℕ) (frame line : List ℕ) : Type 0 where
-  pub is_frame : IsFrame o.rate s.fscod i (places s 0 i) frame
-  pub is_line : line ≡ frame_line i (length frame)
+  pub plan : Plan
+  pub is_frame : IsFrame o s.fscod i (places s 0 i) plan frame
+  pub is_line : line ≡ frame_line i (length frame) plan
 
 -- the first k frames, one after the other, and their lines
 unfoldable pub IsStream : Options → Sound → ℕ → List ℕ → List ℕ → Type 0

@@ -6,6 +6,7 @@ ghost use Rattle.ac_app.specs.Frames.{Emits, RoseAt};
 
 use crate::lines;
 use ac_io::Sink;
+use ac_plan::Plan;
 
 /// Which sink failed.
 #[derive(Clone, Copy, Debug, PartialEq, Eq)]
@@ -16,7 +17,7 @@ pub enum Broken {
     Report,
 }
 
-/// Writes a frame by one write, and reports it by one.
+/// Writes a frame by one write, and reports it and its plan by one.
 ///
 /// # Errors
 ///
@@ -24,10 +25,11 @@ pub enum Broken {
 pub fn emit<O: Sink, N: Sink>(
     i: u32,
     frame: &[u8],
+    plan: &Plan,
     output: &mut O,
     report: &mut N,
 ) -> Result<(), Broken>
-    ensures told { Emits frame.now (frame_line i (length frame.now)) result
+    ensures told { Emits frame.now (frame_line i (length frame.now) plan.now) result
         (sinks O.held O.faults N.held N.faults output.old report.old) (sinks O.held O.faults N.held N.faults output.new report.new) }
     ensures rose { IfErr result (λ broken. RoseAt broken
         (sinks O.held O.faults N.held N.faults output.old report.old) (sinks O.held O.faults N.held N.faults output.new report.new)) }
@@ -37,7 +39,7 @@ pub fn emit<O: Sink, N: Sink>(
     if output.write(frame).is_err() {
         return Err(Broken::Output);
     }
-    let line = lines::frame(i, frame.len());
+    let line = lines::frame(i, frame.len(), plan);
     if report.write(line.as_bytes()).is_err() {
         return Err(Broken::Report);
     }

@@ -1,8 +1,9 @@
 //! The command encode.
 ghost use Rattle.std.specs.Prelude.{◌≡◌, ◌≢◌, ℕ, ◌+◌, ◌≤◌, true, List, Some};
-ghost use Rattle.ac_base.specs.Rates.{IsRate};
+ghost use Rattle.ac_enc.specs.Frame.{IsMono};
 ghost use Rattle.ac_io.specs.Within.{TakesAtMost};
-ghost use Rattle.ac_app.specs.Input.{limit, IsMono};
+ghost use Rattle.ac_words.specs.Lawful.{AreOptions};
+ghost use Rattle.ac_app.specs.Input.{limit};
 ghost use Rattle.ac_app.specs.Run.{EncodeLeaves, EncodeHasCause, RoseFor};
 ghost use Rattle.ac_app.specs.Loop.{unread_status, ended_status};
 ghost use Rattle.ac_app.specs.World.{world, NeverFalls};
@@ -11,6 +12,7 @@ ghost use Rattle.ac_app.specs.declared.status.Status.TheVariants.{Ok, Usage, Rea
 use crate::frames::{LIMIT, Stop, frames};
 use crate::status::Status;
 use crate::work::open;
+use ac_enc::Encoder;
 use ac_io::{Sink, Source};
 use ac_wav::{WavFault, WavHead, WavKind};
 use ac_words::Options;
@@ -53,7 +55,7 @@ pub fn encode<S: Source, O: Sink, N: Sink>(
     output: &mut O,
     report: &mut N,
 ) -> Status
-    requires { IsRate options.rate }
+    requires { AreOptions options }
     ensures told { (bytes : List ℕ) → S.left input.old ≡ Some bytes → EncodeLeaves options result bytes
         (world S.left S.faults O.held O.faults N.held N.faults input.old output.old report.old)
         (world S.left S.faults O.held O.faults N.held N.faults input.new output.new report.new) }
@@ -78,6 +80,9 @@ pub fn encode<S: Source, O: Sink, N: Sink>(
     let Ok(mut work) = open(alloc) else {
         return Status::NoMemory;
     };
-    let end = frames(options, &head, &mut work, input, output, report);
+    let Ok(mut encoder) = Encoder::new(alloc, options, &head) else {
+        return Status::NoMemory;
+    };
+    let end = frames(&head, &mut encoder, &mut work, input, output, report);
     ended(end)
 }

@@ -1,12 +1,13 @@
 //! The loop over the frames: each frame's samples are read, and it is written and reported before the next is read.
-ghost use Rattle.std.specs.Prelude.{◌≡◌, ℕ, ◌+◌, ◌*◌, ◌^◌, ◌<◌, ◌≤◌, List, replicate, pos, Some, IfOk, IfErr, MatchResult};
-ghost use Rattle.ac_base.specs.Rates.{IsRate};
+ghost use Rattle.std.specs.Prelude.{◌≡◌, ℕ, ◌+◌, ◌*◌, ◌^◌, ◌<◌, ◌≤◌, List, length, Some, IfOk, IfErr, MatchResult};
 ghost use Rattle.ac_base.specs.Sigma.{Within};
+ghost use Rattle.ac_enc.specs.Encoding.{at_first};
+ghost use Rattle.ac_enc.specs.Frame.{IsMono};
 ghost use Rattle.ac_riff.specs.Form.{IsOfProfile};
 ghost use Rattle.ac_io.specs.Within.{TakesAtMost};
 ghost use Rattle.ac_riff.specs.Refusal.{HeadRead};
-ghost use Rattle.ac_app.specs.Frames.{RoseAt, Frames, FramesLeave, first_row};
-ghost use Rattle.ac_app.specs.Input.{limit, IsMono};
+ghost use Rattle.ac_app.specs.Frames.{RoseAt, Frames, FramesLeave, first_row, first_last, StandsAt};
+ghost use Rattle.ac_app.specs.Input.{limit};
 ghost use Rattle.ac_app.specs.Loop.{EndsWith, AllRead, StopLeaves, StopRose};
 ghost use Rattle.ac_app.specs.Run.{Encodes};
 ghost use Rattle.ac_app.specs.Sound.{Sound, frame_count, frames_of};
@@ -15,9 +16,9 @@ ghost use Rattle.ac_app.specs.World.{Sinks, sinks, SinksNeverFall, world, NeverF
 use crate::emit::Broken;
 use crate::frame::frame;
 use crate::work::{Work, clear};
+use ac_enc::Encoder;
 use ac_io::{Sink, Source};
 use ac_wav::{WavBody, WavFault, WavHead};
-use ac_words::Options;
 
 /// The most bytes of an input that are read, but for one byte behind them.
 pub const LIMIT: u64 = (1 << 32) + (1 << 20);
@@ -61,28 +62,27 @@ struct Read {
 /// Reads the frames that are full, and encodes, writes and reports each before it reads the next. The samples behind them stand
 /// in the rows in the end.
 fn full_frames<S: Source, O: Sink, N: Sink>(
-    options: Options,
     head: &WavHead,
+    encoder: &mut Encoder,
     work: &mut Work,
     input: &mut S,
     output: &mut O,
     report: &mut N,
 ) -> Result<Read, Stop>
-    requires rate { IsRate options.rate }
     requires profile { IsOfProfile head.now }
     requires mono { IsMono head.now }
     requires within { head.now.taken ≤ limit }
-    requires silent { work.old.last ≡ replicate 256 (pos 0) }
+    requires first { encoder.old ≡ at_first encoder.old.options head.now.fscod }
     ensures told { (bytes : List ℕ) → HeadRead bytes limit head.now (S.left input.old) → MatchResult result
-        (λ read. AllRead options bytes head.now read work.new
+        (λ read. AllRead encoder.old.options bytes head.now read encoder.new work.new
         (world S.left S.faults O.held O.faults N.held N.faults input.old output.old report.old)
         (world S.left S.faults O.held O.faults N.held N.faults input.new output.new report.new))
-        (λ stop. StopLeaves options stop bytes
+        (λ stop. StopLeaves encoder.old.options stop bytes
         (world S.left S.faults O.held O.faults N.held N.faults input.old output.old report.old)
         (world S.left S.faults O.held O.faults N.held N.faults input.new output.new report.new)) }
     ensures count { IfOk result (λ read. (read.frames < 2 ^ 31) × (read.rest < 1536)) }
     ensures row { IfOk result (λ _. Within (2 ^ 23) 1536 (first_row work.new)) }
-    ensures bound { Within (2 ^ 23) 256 work.new.last }
+    ensures next { IfOk result (λ read. StandsAt encoder.old.options head.now.fscod read.frames encoder.new) }
     ensures most_read { (bytes : List ℕ) → HeadRead bytes limit head.now (S.left input.old)
         → TakesAtMost bytes (limit + 1) (S.left input.new) }
     ensures rose { IfErr result (λ stop. StopRose stop
@@ -99,7 +99,7 @@ fn full_frames<S: Source, O: Sink, N: Sink>(
         if rest < 1536 {
             return Ok(Read { frames, rest });
         }
-        frame(options, head.fscod, frames, work, output, report)?;
+        frame(frames, encoder, work, output, report)?;
         frames += 1;
     }
 }
@@ -119,22 +119,21 @@ fn frames_for(samples: u64) -> u32
 /// The frames behind those that are full: none where there was no sample, and else one, or two where the samples of the first
 /// reach into its last 256 places.
 fn last_frames<O: Sink, N: Sink>(
-    options: Options,
-    fscod: u8,
     read: Read,
+    encoder: &mut Encoder,
     work: &mut Work,
     output: &mut O,
     report: &mut N,
 ) -> Result<(), Broken>
-    requires rate { IsRate options.rate }
-    requires sampling { fscod ≤ 2 }
     requires frames { read.frames < 2 ^ 31 }
     requires rest { read.rest < 1536 }
-    requires last { Within (2 ^ 23) 256 work.old.last }
+    requires number { encoder.old.frames ≡ read.frames }
+    requires long { length (first_last encoder.old) ≡ 256 }
     requires row { Within (2 ^ 23) 1536 (first_row work.old) }
-    ensures told { (s : Sound) (start : Sinks) → EndsWith s fscod read work.old
-        → Frames options s read.frames start (sinks O.held O.faults N.held N.faults output.old report.old)
-        → FramesLeave options s read.frames (frames_of s) result start (sinks O.held O.faults N.held N.faults output.new report.new) }
+    ensures told { (s : Sound) (start : Sinks) → EndsWith s read encoder.old work.old
+        → Frames encoder.old.options s read.frames start (sinks O.held O.faults N.held N.faults output.old report.old)
+        → FramesLeave encoder.old.options s read.frames (frames_of s) result start
+        (sinks O.held O.faults N.held N.faults output.new report.new) }
     ensures rose { IfErr result (λ broken. RoseAt broken
         (sinks O.held O.faults N.held N.faults output.old report.old) (sinks O.held O.faults N.held N.faults output.new report.new)) }
     ensures never_falls { SinksNeverFall
@@ -142,7 +141,7 @@ fn last_frames<O: Sink, N: Sink>(
 {
     let count = frames_for(1536 * u64::from(read.frames) + read.rest as u64);
     for i in read.frames..count {
-        frame(options, fscod, i, work, output, report)?;
+        frame(i, encoder, work, output, report)?;
         clear(work);
     }
     Ok(())
@@ -154,23 +153,22 @@ fn last_frames<O: Sink, N: Sink>(
 ///
 /// `Input` where the samples are refused or a read failed, `Sink` where a write failed.
 pub fn frames<S: Source, O: Sink, N: Sink>(
-    options: Options,
     head: &WavHead,
+    encoder: &mut Encoder,
     work: &mut Work,
     input: &mut S,
     output: &mut O,
     report: &mut N,
 ) -> Result<(), Stop>
-    requires rate { IsRate options.rate }
     requires profile { IsOfProfile head.now }
     requires mono { IsMono head.now }
     requires within { head.now.taken ≤ limit }
-    requires silent { work.old.last ≡ replicate 256 (pos 0) }
+    requires first { encoder.old ≡ at_first encoder.old.options head.now.fscod }
     ensures told { (bytes : List ℕ) → HeadRead bytes limit head.now (S.left input.old) → MatchResult result
-        (λ _. Encodes options bytes
+        (λ _. Encodes encoder.old.options bytes
         (world S.left S.faults O.held O.faults N.held N.faults input.old output.old report.old)
         (world S.left S.faults O.held O.faults N.held N.faults input.new output.new report.new))
-        (λ stop. StopLeaves options stop bytes
+        (λ stop. StopLeaves encoder.old.options stop bytes
         (world S.left S.faults O.held O.faults N.held N.faults input.old output.old report.old)
         (world S.left S.faults O.held O.faults N.held N.faults input.new output.new report.new)) }
     ensures most_read { (bytes : List ℕ) → HeadRead bytes limit head.now (S.left input.old)
@@ -182,7 +180,7 @@ pub fn frames<S: Source, O: Sink, N: Sink>(
         (world S.left S.faults O.held O.faults N.held N.faults input.old output.old report.old)
         (world S.left S.faults O.held O.faults N.held N.faults input.new output.new report.new) }
 {
-    let read = full_frames(options, head, work, input, output, report)?;
-    last_frames(options, head.fscod, read, work, output, report)?;
+    let read = full_frames(head, encoder, work, input, output, report)?;
+    last_frames(read, encoder, work, output, report)?;
     Ok(())
 }

@@ -1,7 +1,7 @@
 //! What holds of every stream, of every list of bytes that is to be an input, and of every run that does all.
 ghost use Rattle.std.specs.Prelude.{◌↔◌, ◌≡◌, ◌⊎◌, ℕ, ◌+◌, ◌*◌, ◌<◌, ◌≤◌, List, ◌++◌, length, take, drop, Some};
 ghost use Rattle.ac_base.specs.Rates.{IsRate};
-ghost use Rattle.ac_frame.specs.Plain.{AreBytes};
+ghost use Rattle.ac_record.specs.Laws.{AreBytes};
 ghost use Rattle.ac_riff.specs.declared.fault.WavKind.{WavKind};
 ghost use Rattle.ac_riff.specs.declared.head.WavHead.{WavHead};
 ghost use Rattle.ac_words.specs.Grammar.{Text};
@@ -14,8 +14,8 @@ ghost use Rattle.ac_app.specs.World.{World};
 
 /// What is true of the first frames of a sound and their lines: they have the bytes that their rate gives; a front of them
 /// is the first frames again; each frame stands at its own place, and its line behind those of the frames before; the
-/// same frame of one sound has the same four bytes behind crc1, from fscod on (A/52 5.3.1, 5.3.2); and the samples of
-/// these frames alone tell them: the first k frames are those of every sound that continues the first 1,536 k samples.
+/// same frame of one sound has the same four bytes behind crc1, from fscod on (A/52 5.3.1, 5.3.2), by whatever plan, and by
+/// one plan it is one list of bytes with one line; and the samples of these frames alone tell them: the first k frames are those of every sound that continues the first 1,536 k samples.
 pub fn stream_law()
     ensures size { (o : Options) (k : ℕ) (x : Sound) (stream lines : List ℕ) → IsRate o.rate → x.fscod ≤ 2
         → IsStream o x k stream lines → length stream ≡ stream_size o x k }
@@ -27,6 +27,9 @@ pub fn stream_law()
     ensures heads { (o : Options) (i : ℕ) (x : Sound) (frame line other another : List ℕ) → IsRate o.rate → x.fscod ≤ 2
         → AreBytes frame → AreBytes other → IsFrameAt o x i frame line → IsFrameAt o x i other another
         → take 4 (drop 4 frame) ≡ take 4 (drop 4 other) }
+    ensures one { (o : Options) (i : ℕ) (x : Sound) (frame line other another : List ℕ) → IsRate o.rate → x.fscod ≤ 2
+        → AreBytes frame → AreBytes other → (here : IsFrameAt o x i frame line) → (there : IsFrameAt o x i other another)
+        → here.plan ≡ there.plan → (frame ≡ other) × (line ≡ another) }
     ensures depends { (o : Options) (k : ℕ) (x y : Sound) (stream lines : List ℕ) → Continues x (1536 * k) y
         → IsStream o x k stream lines ↔ IsStream o y k stream lines }
 {}

@@ -1,18 +1,19 @@
 //! The lines of the report.
 ghost use Rattle.std.specs.Prelude.{◌≡◌, ℕ, ◌+◌, ◌≤◌, ◌<◌, ◌++◌, length, codes, decimal};
 ghost use Rattle.arrayvec.specs.ArrayString.{array_string_len};
-ghost use Rattle.ac_app.specs.Lines.{frame_line, status_line, kind_word};
+ghost use Rattle.ac_app.specs.Lines.{mark_words, frame_line, status_line, kind_word};
 
 use crate::status::Status;
+use ac_plan::{Mark, Plan};
 use ac_wav::WavKind;
 use arrayvec::ArrayString;
 use itoa::Buffer;
 
 /// A line of the report; none is longer.
-pub type Line = ArrayString<96>;
+pub type Line = ArrayString<128>;
 
 fn push_number(line: &mut Line, number: u64)
-    requires { array_string_len line.old + 20 ≤ 96 }
+    requires { array_string_len line.old + 20 ≤ 128 }
     ensures adds { line.new.bytes ≡ line.old.bytes ++ decimal number }
     ensures len { array_string_len line.new ≤ array_string_len line.old + 20 }
 {
@@ -20,16 +21,36 @@ fn push_number(line: &mut Line, number: u64)
     line.push_str(buffer.format(number));
 }
 
-/// The line of frame `i` with `size` bytes.
-pub fn frame(i: u32, size: usize) -> Line
-    ensures { result.bytes ≡ frame_line i size }
+fn push_mark(line: &mut Line, plan: &Plan)
+    requires { array_string_len line.old + 50 ≤ 128 }
+    ensures adds { line.new.bytes ≡ line.old.bytes ++ mark_words plan.now.mark plan.now.offset }
+    ensures len { array_string_len line.new ≤ array_string_len line.old + 50 }
+{
+    match plan.mark {
+        Mark::Best => {
+            line.push_str(" best ");
+            push_number(line, u64::from(plan.offset));
+        }
+        Mark::Bounded { upper } => {
+            line.push_str(" bounded ");
+            push_number(line, u64::from(plan.offset));
+            line.push_str(" ");
+            push_number(line, u64::from(upper));
+        }
+    }
+}
+
+/// The line of frame `i`, of `size` bytes by this plan.
+pub fn frame(i: u32, size: usize, plan: &Plan) -> Line
+    ensures { result.bytes ≡ frame_line i size plan.now }
 {
     let mut line = Line::new();
     line.push_str("frame ");
     push_number(&mut line, u64::from(i));
     line.push_str(" size ");
     push_number(&mut line, size as u64);
-    line.push_str(" base\n");
+    push_mark(&mut line, plan);
+    line.push_str("\n");
     line
 }
 
@@ -69,7 +90,7 @@ fn too_long(limit: u64) -> Line
 }
 
 fn fixed(text: &'static str) -> Line
-    requires { length text.now ≤ 96 }
+    requires { length text.now ≤ 128 }
     ensures { result.bytes ≡ text.now }
 {
     let mut line = Line::new();

@@ -82,12 +82,21 @@ const NONE: Failing<'static> = Failing {
     report: &[],
 };
 
-fn words_of(alloc: Global, rate: &str) -> Result<Vec<String>, AllocError> {
-    let mut words = Vec::with_capacity(alloc, 6)?;
-    for word in ["encode", "--rate", rate, "-", "-", "-"] {
-        words.push(String::from_str(alloc, word)?)?;
+fn texts(alloc: Global, words: &[&str]) -> Result<Vec<String>, AllocError> {
+    let mut made = Vec::with_capacity(alloc, words.len())?;
+    for word in words {
+        made.push(String::from_str(alloc, word)?)?;
     }
-    Ok(words)
+    Ok(made)
+}
+
+fn spoken(rt: HostRuntime, words: &[&str]) -> Result<Vec<String>, Fail> {
+    Ok(again!(rt; texts(rt.alloc(), words)))
+}
+
+/// The words of an encode at this rate.
+fn words(rt: HostRuntime, rate: &str) -> Result<Vec<String>, Fail> {
+    spoken(rt, &["encode", "--rate", rate, "-", "-", "-"])
 }
 
 fn source(alloc: Global, bytes: &[u8], failing: &[u64]) -> Result<MemSource, AllocError> {
@@ -129,8 +138,7 @@ fn left_by(
 }
 
 fn encoded(rt: HostRuntime, bytes: &[u8]) -> Result<Left, Fail> {
-    let words = again!(rt; words_of(rt.alloc(), "192"));
-    left_by(rt, &words, bytes, NONE)
+    left_by(rt, &words(rt, "192")?, bytes, NONE)
 }
 
 /// Writes bytes over those from `at` on.
@@ -162,10 +170,15 @@ fn with_zeros(alloc: Global, head: &[u8; 44], count: u32) -> Result<Vec<u8>, All
     Ok(bytes)
 }
 
+/// A head and this many bytes of 0 behind it.
+fn zeros(rt: HostRuntime, head: &[u8; 44], count: u32) -> Result<Vec<u8>, Fail> {
+    Ok(again!(rt; with_zeros(rt.alloc(), head, count)))
+}
+
 /// A WAV of `samples` zero samples.
-fn silence(alloc: Global, samples: u16) -> Result<Vec<u8>, AllocError> {
+fn silence(rt: HostRuntime, samples: u16) -> Result<Vec<u8>, Fail> {
     let size = 2 * u32::from(samples);
-    with_zeros(alloc, &head_of(size), size)
+    zeros(rt, &head_of(size), size)
 }
 
 /// Whether a run left this report.
@@ -183,7 +196,6 @@ fn sample(place: u16) -> [u8; 2] {
     place.wrapping_mul(7919).to_le_bytes()
 }
 
-/// A WAV of the sound's first 3,000 samples, of 16 bits.
 fn plain_sound(alloc: Global) -> Result<Vec<u8>, AllocError> {
     let mut bytes = Vec::with_capacity(alloc, 6044)?;
     bytes.extend_from_slice(&head_of(6000))?;
@@ -191,6 +203,11 @@ fn plain_sound(alloc: Global) -> Result<Vec<u8>, AllocError> {
         bytes.extend_from_slice(&sample(place))?;
     }
     Ok(bytes)
+}
+
+/// A WAV of the sound's first 3,000 samples, of 16 bits.
+fn plain(rt: HostRuntime) -> Result<Vec<u8>, Fail> {
+    Ok(again!(rt; plain_sound(rt.alloc())))
 }
 
 mod faults;

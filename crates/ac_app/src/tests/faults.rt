@@ -1,40 +1,42 @@
 //! Data that are cut, and calls of the outside that fail.
 use super::{
-    EMPTY, Failing, Left, NONE, encoded, front, head_of, left_by, plain_sound, refuses, reports,
-    silence, with_zeros, words_of,
+    EMPTY, Failing, Left, NONE, encoded, front, head_of, left_by, plain, refuses, reports, silence,
+    words, zeros,
 };
 use crate::{Status, WavKind};
 use std::test::Fail;
 
 #[test]
 fn failing_output(rt: HostRuntime) -> Result<(), Fail> {
-    let words = again!(rt; words_of(rt.alloc(), "192"));
+    let words = words(rt, "192")?;
     let failing = Failing {
         output: &[1],
         ..NONE
     };
-    let left = left_by(rt, &words, &again!(rt; silence(rt.alloc(), 3000)), failing)?;
+    let left = left_by(rt, &words, &silence(rt, 3000)?, failing)?;
     assert_eq!(rt; left.status, Status::WriteFault);
     assert_eq!(rt; left.output.bytes().len(), 768);
-    assert!(rt; left.report.bytes() == "frame 0 size 768 base\nstatus 7 write fault\n".as_bytes());
+    assert!(rt;
+        left.report.bytes() == "frame 0 size 768 best 628\nstatus 7 write fault\n".as_bytes()
+    );
     Ok(())
 }
 
 #[test]
 fn failing_input(rt: HostRuntime) -> Result<(), Fail> {
-    let words = again!(rt; words_of(rt.alloc(), "192"));
+    let words = words(rt, "192")?;
     let failing = Failing {
         input: &[0],
         ..NONE
     };
-    let left = left_by(rt, &words, &again!(rt; silence(rt.alloc(), 3000)), failing)?;
+    let left = left_by(rt, &words, &silence(rt, 3000)?, failing)?;
     assert!(rt; refuses(&left, Status::ReadFault, "status 6 read fault\n"));
     Ok(())
 }
 
 #[test]
 fn short_data(rt: HostRuntime) -> Result<(), Fail> {
-    let mut bytes = again!(rt; silence(rt.alloc(), 4));
+    let mut bytes = silence(rt, 4)?;
     bytes.truncate(50);
     let left = encoded(rt, &bytes)?;
     assert!(rt;
@@ -50,14 +52,14 @@ fn short_data(rt: HostRuntime) -> Result<(), Fail> {
 // The frame that was whole is written before the data are found to be short.
 #[test]
 fn frame_before_short(rt: HostRuntime) -> Result<(), Fail> {
-    let bytes = again!(rt; with_zeros(rt.alloc(), &head_of(6144), 4000));
+    let bytes = zeros(rt, &head_of(6144), 4000)?;
     let left = encoded(rt, &bytes)?;
     assert_eq!(rt; left.status, Status::BadWav(WavKind::Short, 4044));
     assert_eq!(rt; left.output.bytes().len(), 768);
     assert!(rt;
         reports(
             &left,
-            "frame 0 size 768 base\nstatus 2 bad wav short 4044\n"
+            "frame 0 size 768 best 628\nstatus 2 bad wav short 4044\n"
         )
     );
     Ok(())
@@ -66,21 +68,21 @@ fn frame_before_short(rt: HostRuntime) -> Result<(), Fail> {
 // The report fails at its second line: both frames are written, and the status line follows the first line.
 #[test]
 fn report_fails_second(rt: HostRuntime) -> Result<(), Fail> {
-    let words = again!(rt; words_of(rt.alloc(), "192"));
+    let words = words(rt, "192")?;
     let failing = Failing {
         report: &[1],
         ..NONE
     };
-    let left = left_by(rt, &words, &again!(rt; silence(rt.alloc(), 3000)), failing)?;
+    let left = left_by(rt, &words, &silence(rt, 3000)?, failing)?;
     assert_eq!(rt; left.status, Status::WriteFault);
     assert_eq!(rt; left.output.bytes().len(), 1536);
-    assert!(rt; reports(&left, "frame 0 size 768 base\nstatus 7 write fault\n"));
+    assert!(rt; reports(&left, "frame 0 size 768 best 628\nstatus 7 write fault\n"));
     Ok(())
 }
 
 #[test]
 fn report_fails_first(rt: HostRuntime) -> Result<(), Fail> {
-    let words = again!(rt; words_of(rt.alloc(), "192"));
+    let words = words(rt, "192")?;
     let failing = Failing {
         report: &[0],
         ..NONE
@@ -90,8 +92,9 @@ fn report_fails_first(rt: HostRuntime) -> Result<(), Fail> {
     Ok(())
 }
 
-/// The lines of the first three frames of a sound at 48 kHz and 192 kbit/s, of 22 bytes each.
-const LINES: &str = "frame 0 size 768 base\nframe 1 size 768 base\nframe 2 size 768 base\n";
+/// The lines of the first three frames of a sound at 48 kHz and 192 kbit/s, of 26 bytes each.
+const LINES: &str =
+    "frame 0 size 768 best 272\nframe 1 size 768 best 271\nframe 2 size 768 best 524\n";
 
 /// What a run that a fault stopped leaves: whole frames of the plain run, lines of the report, and the status line.
 #[derive(Clone, Copy)]
@@ -112,7 +115,7 @@ fn ends_so(report: &[u8], lines: &[u8], end: &[u8]) -> bool {
 /// Whether a run left this, beside what the plain run left.
 fn stops_so(left: &Left, plain: &Left, wanted: Stopped) -> bool {
     let frames = front(plain.output.bytes(), wanted.frames.saturating_mul(768));
-    let lines = front(LINES.as_bytes(), wanted.lines.saturating_mul(22));
+    let lines = front(LINES.as_bytes(), wanted.lines.saturating_mul(26));
     left.status == wanted.status
         && left.output.bytes() == frames
         && ends_so(left.report.bytes(), lines, wanted.end.as_bytes())
@@ -184,8 +187,8 @@ struct Plain {
 }
 
 fn plain_run(rt: HostRuntime) -> Result<Plain, Fail> {
-    let words = again!(rt; words_of(rt.alloc(), "192"));
-    let bytes = again!(rt; plain_sound(rt.alloc()));
+    let words = words(rt, "192")?;
+    let bytes = plain(rt)?;
     let left = left_by(rt, &words, &bytes, NONE)?;
     Ok(Plain { words, bytes, left })
 }

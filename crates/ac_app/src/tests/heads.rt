@@ -1,7 +1,5 @@
 //! Heads that are cut or contradict themselves.
-use super::{
-    EMPTY, NONE, WIDE, encoded, front, head_of, left_by, refuses, with_zeros, words_of, write,
-};
+use super::{EMPTY, NONE, WIDE, encoded, front, head_of, left_by, refuses, words, write, zeros};
 use crate::{Field, Status, WavKind, input_law};
 use std::alloc::{AllocError, Global};
 use std::test::Fail;
@@ -26,10 +24,7 @@ fn stereo_not_yet(rt: HostRuntime) -> Result<(), Fail> {
     let mut head = EMPTY;
     write(&mut head, 22, &[2]);
     write(&mut head, 32, &[4]);
-    for bytes in [
-        head.as_slice(),
-        &again!(rt; with_zeros(rt.alloc(), &head, 9)),
-    ] {
+    for bytes in [head.as_slice(), &zeros(rt, &head, 9)?] {
         let left = encoded(rt, bytes)?;
         assert!(rt;
             refuses(
@@ -45,7 +40,7 @@ fn stereo_not_yet(rt: HostRuntime) -> Result<(), Fail> {
 // Each length below a whole head ends inside it, or where a chunk could begin.
 #[test]
 fn every_cut_head(rt: HostRuntime) -> Result<(), Fail> {
-    let words = again!(rt; words_of(rt.alloc(), "192"));
+    let words = words(rt, "192")?;
     for cut in 0..44usize {
         let left = left_by(rt, &words, &EMPTY[..cut], NONE)?;
         let kind = if cut == 12 || cut == 36 {
@@ -158,7 +153,7 @@ const REFUSED: [(usize, &[u8], WavKind, u64, &str); 14] = [
 // The kind and the place of the first rule that fails, and their line.
 #[test]
 fn refused_heads(rt: HostRuntime) -> Result<(), Fail> {
-    let words = again!(rt; words_of(rt.alloc(), "192"));
+    let words = words(rt, "192")?;
     for (at, new, kind, place, line) in REFUSED {
         let mut head = EMPTY;
         write(&mut head, at, new);
@@ -174,7 +169,7 @@ fn refused_heads(rt: HostRuntime) -> Result<(), Fail> {
 // In the extensible form the mask is one of the profile's, and has as many bits as there are channels.
 #[test]
 fn refused_masks(rt: HostRuntime) -> Result<(), Fail> {
-    let words = again!(rt; words_of(rt.alloc(), "192"));
+    let words = words(rt, "192")?;
     for (channels, mask, kind) in [
         (1u8, 3u8, WavKind::BadFmt(Field::Mask)),
         (2, 5, WavKind::Unsupported(Field::Mask, 5)),
@@ -195,13 +190,10 @@ fn refused_masks(rt: HostRuntime) -> Result<(), Fail> {
 fn data_of_odd_sizes(rt: HostRuntime) -> Result<(), Fail> {
     let left = encoded(rt, &head_of(u32::MAX))?;
     assert!(rt; refuses(&left, Status::Ok, "status 0 ok\n"));
-    let left = encoded(rt, &again!(rt; with_zeros(rt.alloc(), &head_of(3), 3)))?;
+    let left = encoded(rt, &zeros(rt, &head_of(3), 3)?)?;
     assert_eq!(rt; left.status, Status::Ok);
     assert_eq!(rt; left.output.bytes().len(), 768);
-    let left = encoded(
-        rt,
-        &again!(rt; with_zeros(rt.alloc(), &head_of(2561), 2661)),
-    )?;
+    let left = encoded(rt, &zeros(rt, &head_of(2561), 2661)?)?;
     assert_eq!(rt; left.status, Status::Ok);
     assert_eq!(rt; left.output.bytes().len(), 768);
     Ok(())
@@ -218,10 +210,14 @@ fn with_chunks(alloc: Global) -> Result<Vec<u8>, AllocError> {
     Ok(bytes)
 }
 
+fn chunked(rt: HostRuntime) -> Result<Vec<u8>, Fail> {
+    Ok(again!(rt; with_chunks(rt.alloc())))
+}
+
 // Chunks of odd and even size before the data are passed over with their pad bytes; a chunk of odd size without one is short.
 #[test]
 fn chunks_are_passed_over(rt: HostRuntime) -> Result<(), Fail> {
-    let bytes = again!(rt; with_chunks(rt.alloc()));
+    let bytes = chunked(rt)?;
     assert_eq!(rt; encoded(rt, &bytes)?.status, Status::Ok);
     for (cut, kind) in [
         (23, WavKind::Short),

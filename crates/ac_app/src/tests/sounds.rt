@@ -1,7 +1,7 @@
 //! Sounds, their frames and the lines of these.
 use super::{
-    EMPTY, Left, NONE, WIDE, encoded, head_of, is_starved, left_by, may_leave, plain_sound,
-    refuses, reports, sample, silence, sink, source, words_of, write,
+    EMPTY, Left, NONE, WIDE, encoded, head_of, is_starved, left_by, may_leave, plain, refuses,
+    reports, sample, silence, sink, source, spoken, words, write,
 };
 use crate::{NullSink, Status, run, run_law, stream_law};
 use std::alloc::{AllocError, Global};
@@ -17,15 +17,15 @@ fn empty_mono(rt: HostRuntime) -> Result<(), Fail> {
 #[test]
 fn frame_count(rt: HostRuntime) -> Result<(), Fail> {
     stream_law();
-    let one = encoded(rt, &again!(rt; silence(rt.alloc(), 1280)))?;
+    let one = encoded(rt, &silence(rt, 1280)?)?;
     assert_eq!(rt; one.status, Status::Ok);
     assert_eq!(rt; one.output.bytes().len(), 768);
-    assert!(rt; one.report.bytes() == "frame 0 size 768 base\nstatus 0 ok\n".as_bytes());
-    let two = encoded(rt, &again!(rt; silence(rt.alloc(), 1281)))?;
+    assert!(rt; one.report.bytes() == "frame 0 size 768 best 628\nstatus 0 ok\n".as_bytes());
+    let two = encoded(rt, &silence(rt, 1281)?)?;
     assert_eq!(rt; two.output.bytes().len(), 1536);
     assert!(rt;
         two.report.bytes()
-            == "frame 0 size 768 base\nframe 1 size 768 base\nstatus 0 ok\n".as_bytes()
+            == "frame 0 size 768 best 628\nframe 1 size 768 best 628\nstatus 0 ok\n".as_bytes()
     );
     Ok(())
 }
@@ -40,11 +40,15 @@ fn squares(alloc: Global) -> Result<Vec<u8>, AllocError> {
     Ok(bytes)
 }
 
+fn square_bytes(rt: HostRuntime) -> Result<Vec<u8>, Fail> {
+    Ok(again!(rt; squares(rt.alloc())))
+}
+
 // Two frames of a sound: bytes 4 to 7 of each are the head's.
 #[test]
 fn mono_header_bytes(rt: HostRuntime) -> Result<(), Fail> {
     run_law();
-    let bytes = again!(rt; squares(rt.alloc()));
+    let bytes = square_bytes(rt)?;
     let left = encoded(rt, &bytes)?;
     assert_eq!(rt; left.output.bytes().len(), 1536);
     for frame in [0, 768] {
@@ -56,11 +60,99 @@ fn mono_header_bytes(rt: HostRuntime) -> Result<(), Fail> {
     Ok(())
 }
 
+/// Whether a run left this report, and frames of so many bytes.
+fn leaves(left: &Left, bytes: usize, report: &str) -> bool {
+    left.status == Status::Ok && left.output.bytes().len() == bytes && reports(left, report)
+}
+
+fn at_rate(rt: HostRuntime, bytes: &[u8], rate: &str) -> Result<Left, Fail> {
+    left_by(rt, &words(rt, rate)?, bytes, NONE)
+}
+
+/// A WAV with another sampling rate.
+fn sampled(rt: HostRuntime, samples: u16, rate: u16) -> Result<Vec<u8>, Fail> {
+    let mut bytes = silence(rt, samples)?;
+    write(&mut bytes, 24, &rate.to_le_bytes());
+    Ok(bytes)
+}
+
+// Where there is room for all of it the offset is the greatest.
 #[test]
-fn silence_base_frame(rt: HostRuntime) -> Result<(), Fail> {
-    let left = encoded(rt, &again!(rt; silence(rt.alloc(), 1280)))?;
-    assert_eq!(rt; left.output.bytes().len(), 768);
-    assert!(rt; left.output.bytes()[4..12] == [0x14, 0x40, 0x2f, 0x84, 0x0b, 0xf3, 0xfe, 0x75]);
+fn silence_at_the_greatest_offset(rt: HostRuntime) -> Result<(), Fail> {
+    let left = at_rate(rt, &sampled(rt, 1000, 32_000)?, "640")?;
+    assert!(rt; leaves(&left, 3840, "frame 0 size 3840 best 1023\nstatus 0 ok\n"));
+    Ok(())
+}
+
+/// The words of an encode, and the report that is wanted of 1,000 samples of silence.
+const CHOICES: [([&str; 8], &str); 2] = [
+    (
+        ["encode", "--nodes", "0", "--rate", "192", "-", "-", "-"],
+        "frame 0 size 768 best 628\nstatus 0 ok\n",
+    ),
+    (
+        ["encode", "--rate", "192", "--bw", "0", "-", "-", "-"],
+        "frame 0 size 768 best 824\nstatus 0 ok\n",
+    ),
+];
+
+// One channel takes no node of the search, and fewer bins leave more room to each.
+#[test]
+fn nodes_and_bandwidth(rt: HostRuntime) -> Result<(), Fail> {
+    for (words, report) in CHOICES {
+        let words = spoken(rt, &words)?;
+        let left = left_by(rt, &words, &silence(rt, 1000)?, NONE)?;
+        assert!(rt; leaves(&left, 768, report), "{report}");
+    }
+    Ok(())
+}
+
+/// A square wave of 16 bits: its rate of sampling, its samples, half its period, the bit rate, and the bytes and the report that
+/// are wanted of it. The offsets were found by trying every assignment.
+const SQUARES: [(u16, u16, u16, &str, usize, &str); 3] = [
+    (
+        48_000,
+        1000,
+        200,
+        "32",
+        128,
+        "frame 0 size 128 best 142\nstatus 0 ok\n",
+    ),
+    (
+        48_000,
+        2700,
+        300,
+        "640",
+        5120,
+        "frame 0 size 2560 best 558\nframe 1 size 2560 best 554\nstatus 0 ok\n",
+    ),
+    (
+        44_100,
+        2700,
+        40,
+        "96",
+        834,
+        "frame 0 size 416 best 235\nframe 1 size 418 best 220\nstatus 0 ok\n",
+    ),
+];
+
+/// Sets the samples behind the head to a square wave.
+fn beat(bytes: &mut [u8], half: u16) {
+    for place in 0..bytes.len().saturating_sub(44) / 2 {
+        let is_low = place / usize::from(half.max(1)) % 2 == 1;
+        let level: i16 = if is_low { -31_000 } else { 31_000 };
+        write(bytes, 44 + 2 * place, &level.to_le_bytes());
+    }
+}
+
+#[test]
+fn offsets_of_square_waves(rt: HostRuntime) -> Result<(), Fail> {
+    for (sampling, samples, half, rate, size, report) in SQUARES {
+        let mut bytes = sampled(rt, samples, sampling)?;
+        beat(&mut bytes, half);
+        let left = at_rate(rt, &bytes, rate)?;
+        assert!(rt; leaves(&left, size, report), "at {rate}");
+    }
     Ok(())
 }
 
@@ -92,22 +184,30 @@ fn without_output(alloc: Global, words: &[String], bytes: &[u8]) -> Result<Left,
     })
 }
 
+fn unreported(rt: HostRuntime, words: &[String], bytes: &[u8]) -> Result<Left, Fail> {
+    Ok(left!(rt; without_report(rt.alloc(), words, bytes)))
+}
+
+fn unkept(rt: HostRuntime, words: &[String], bytes: &[u8]) -> Result<Left, Fail> {
+    Ok(left!(rt; without_output(rt.alloc(), words, bytes)))
+}
+
 // What one sink gains doesn't depend on whether the other tells anything.
 #[test]
 fn each_sink_alone(rt: HostRuntime) -> Result<(), Fail> {
-    let words = again!(rt; words_of(rt.alloc(), "192"));
-    let bytes = again!(rt; squares(rt.alloc()));
+    let words = words(rt, "192")?;
+    let bytes = square_bytes(rt)?;
     let both = left_by(rt, &words, &bytes, NONE)?;
-    let unreported = left!(rt; without_report(rt.alloc(), &words, &bytes));
+    let unreported = unreported(rt, &words, &bytes)?;
     assert_eq!(rt; unreported.status, Status::Ok);
     assert_eq!(rt; unreported.output.bytes().len(), 1536);
     assert!(rt; unreported.output.bytes() == both.output.bytes());
-    let unkept = left!(rt; without_output(rt.alloc(), &words, &bytes));
+    let unkept = unkept(rt, &words, &bytes)?;
     assert_eq!(rt; unkept.status, Status::Ok);
     assert!(rt;
         reports(
             &unkept,
-            "frame 0 size 768 base\nframe 1 size 768 base\nstatus 0 ok\n"
+            "frame 0 size 768 best 240\nframe 1 size 768 best 335\nstatus 0 ok\n"
         )
     );
     assert!(rt; unkept.report.bytes() == both.report.bytes());
@@ -125,11 +225,15 @@ fn wide_sound(alloc: Global) -> Result<Vec<u8>, AllocError> {
     Ok(bytes)
 }
 
+fn wide(rt: HostRuntime) -> Result<Vec<u8>, Fail> {
+    Ok(again!(rt; wide_sound(rt.alloc())))
+}
+
 // The same samples in the plain form and in 24 bits of the extensible form are one stream.
 #[test]
 fn forms_of_one_sound(rt: HostRuntime) -> Result<(), Fail> {
-    let left = encoded(rt, &again!(rt; plain_sound(rt.alloc())))?;
-    let again = encoded(rt, &again!(rt; wide_sound(rt.alloc())))?;
+    let left = encoded(rt, &plain(rt)?)?;
+    let again = encoded(rt, &wide(rt)?)?;
     assert_eq!(rt; left.status, Status::Ok);
     assert_eq!(rt; left.output.bytes().len(), 3 * 768);
     assert_eq!(rt; again.status, Status::Ok);
@@ -141,13 +245,13 @@ fn forms_of_one_sound(rt: HostRuntime) -> Result<(), Fail> {
 // At 44.1 kHz and 192 kbit/s frames 0 and 1 have 417 and 418 words, and the codes 20 and 21; at 32 kHz each has 576.
 #[test]
 fn alternating_frame_sizes(rt: HostRuntime) -> Result<(), Fail> {
-    let mut bytes = again!(rt; silence(rt.alloc(), 2000));
+    let mut bytes = silence(rt, 2000)?;
     write(&mut bytes, 24, &[0x44, 0xac]);
     let left = encoded(rt, &bytes)?;
     assert_eq!(rt; left.status, Status::Ok);
     assert!(rt;
         left.report.bytes()
-            == "frame 0 size 834 base\nframe 1 size 836 base\nstatus 0 ok\n".as_bytes()
+            == "frame 0 size 834 best 636\nframe 1 size 836 best 636\nstatus 0 ok\n".as_bytes()
     );
     assert_eq!(rt; left.output.bytes().len(), 834 + 836);
     assert_eq!(rt; left.output.bytes()[4], 0x40 + 20);
@@ -163,7 +267,7 @@ fn alternating_frame_sizes(rt: HostRuntime) -> Result<(), Fail> {
 #[test]
 fn words_outside_the_grammar(rt: HostRuntime) -> Result<(), Fail> {
     for rate in ["193", "0192", "-192", ""] {
-        let words = again!(rt; words_of(rt.alloc(), rate));
+        let words = words(rt, rate)?;
         let left = left_by(rt, &words, &EMPTY, NONE)?;
         assert!(rt; refuses(&left, Status::Usage, "status 1 usage\n"), "{rate}");
     }

@@ -1,15 +1,22 @@
-use Rattle.std.proofs.Common.{rules, ◌≡◌, ℕ, subst, take}
-use Rattle.ac_enc.specs.Frame.{IsFrame, joined}
-use Rattle.ac_app.proofs.Places.{frame_told, last_next, last_bound}
+use Rattle.std.proofs.Common.{take, slice_index_or, []}
+use Rattle.ac_app.specs.Frames.{first_last}
+use Rattle.ac_app.proofs.Places.{frame_told, last_next, last_long}
 use Rattle.ac_app.proofs.frame.encode.Goals as goal
 
 pub returns-clause-value : goal.returns-clause-value
 returns-clause-value c = λ s same before own.
-    let number : c.from.result ≡ c.args.i = search rules in
-    let is = subst (λ (n : ℕ). IsFrame c.args.options.rate c.args.fscod n (joined c.args.last.now c.args.pcm.now) (take c.encode_frame-size.result c.encode_frame-size.new.out)) number c.encode_frame-size.ensures.front in (
-      frame_told c.args.options.rate c.args.fscod s c.args.i c.args.last.now c.args.pcm.now (take c.encode_frame-size.result c.encode_frame-size.new.out) c.told-last before own is,
-      last_next s 0 c.args.i c.args.pcm.now c.keep_last.new.last c.keep_last.ensures own,
+    let e = c.args.encoder.now in
+    let row = slice_index_or c.args.rows.now 0 [] in (
+      frame_told e.options e.fscod s e.frames (first_last e) row c.frame.result.plan (take c.frame.result.size c.frame.new.out) c.requires.long before own c.frame.ensures.frame,
+      last_next s 0 e.frames row (first_last c.frame.new.self) c.frame.ensures.last own,
     )
 
-pub returns-clause-bound : goal.returns-clause-bound
-returns-clause-bound c = last_bound c.args.pcm.now c.keep_last.new.last c.keep_last.ensures c.requires.pcm
+pub returns-clause-next : goal.returns-clause-next
+returns-clause-next c =
+    let row = slice_index_or c.args.rows.now 0 [] in
+    record {
+      options = c.frame.ensures.same_options;
+      fscod_is = c.frame.ensures.same_fscod;
+      number = c.frame.ensures.frames;
+      long = last_long row (first_last c.frame.new.self) c.row_law.ensures c.frame.ensures.last;
+    }
