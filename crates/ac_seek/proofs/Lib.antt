@@ -1,0 +1,17 @@
+pub mod Answering
+pub mod Below
+pub mod Closing
+pub mod Codes
+pub mod Filling
+pub mod Growing
+pub mod Looks
+pub mod Ones
+pub mod Paths
+pub mod Places
+pub mod Premises
+pub mod Roots
+pub mod Sames
+pub mod Sizes
+pub mod Truths
+pub mod Turns
+pub mod Wholes
