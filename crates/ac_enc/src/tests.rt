@@ -1,5 +1,6 @@
-ghost use Rattle.std.specs.Prelude.{◌≡◌, ◌≤◌};
+ghost use Rattle.std.specs.Prelude.{◌≡◌, ◌≤◌, ◌<◌, ◌+◌, ◌^◌, [], slice_index_or};
 ghost use Rattle.ac_base.specs.Rates.{IsRate};
+ghost use Rattle.ac_base.specs.Sigma.{Within};
 ghost use Rattle.ac_riff.specs.Form.{IsOfProfile};
 ghost use Rattle.ac_words.specs.Lawful.{AreOptions};
 ghost use Rattle.ac_enc.specs.Frame.{IsMono};
@@ -42,7 +43,26 @@ fn options(rate: u16) -> Options
     }
 }
 
-// The mantissas of silence take no bits (A/52 7.2.2.7), so the greatest offset there is fits.
+/// A frame's samples, each 0.
+fn silence() -> [[i32; 1536]; 6]
+    ensures { Within (2 ^ 23) 1536 (slice_index_or result 0 []) }
+{
+    [[0; 1536]; 6]
+}
+
+/// The next frame of silence has this size and, behind crc1, these codes; what stands behind it stays.
+fn look(rt: &impl Abort, encoder: &mut Encoder, size: usize, codes: u8)
+    requires few { encoder.old.frames < 10 }
+    ensures { encoder.new.frames ≡ encoder.old.frames + 1 }
+{
+    let mut out = [0xff; FRAME_BYTES];
+    let done = encoder.frame(&silence(), &mut out);
+    assert_eq!(rt; done.size, size);
+    assert_eq!(rt; [out[0], out[1], out[4]], [0x0b, 0x77, codes]);
+    assert!(rt; out[done.size..].iter().all(|byte| *byte == 0xff));
+}
+
+// At 640 kbit/s and 32 kHz a frame has 30,720 bits, and D45 with reuse takes 24,615 of them at the greatest offset there is.
 #[test]
 fn silence_best_top(rt: HostRuntime) {
     assert!(rt; is_rate(640));
@@ -50,7 +70,7 @@ fn silence_best_top(rt: HostRuntime) {
         return;
     };
     let mut out = [0xff; FRAME_BYTES];
-    let done = encoder.frame(&[[0; 1536]; 6], &mut out);
+    let done = encoder.frame(&silence(), &mut out);
     assert_eq!(rt; done.size, 3840);
     assert_eq!(rt; done.plan.offset, 1023);
     assert_eq!(rt; done.plan.mark, Mark::Best);
@@ -65,11 +85,6 @@ fn alternating_frame_sizes(rt: HostRuntime) {
     let Ok(mut encoder) = Encoder::new(rt.alloc(), options(192), &head(1)) else {
         return;
     };
-    for (size, codes) in [(834usize, 64 + 20u8), (836, 64 + 21)] {
-        let mut out = [0xff; FRAME_BYTES];
-        let done = encoder.frame(&[[0; 1536]; 6], &mut out);
-        assert_eq!(rt; done.size, size);
-        assert_eq!(rt; [out[0], out[1], out[4]], [0x0b, 0x77, codes]);
-        assert!(rt; out[size..].iter().all(|byte| *byte == 0xff));
-    }
+    look(&rt, &mut encoder, 834, 64 + 20);
+    look(&rt, &mut encoder, 836, 64 + 21);
 }
