@@ -1,18 +1,22 @@
 -- The laws at an offset.
 use Rattle.std.proofs.Common.{◌≡◌, ◌*◌, ◌<◌, Bool, true, false, [], inl, inr, refl, arith}
 use Rattle.std.specs.Prelude.{◌||◌}
+use Rattle.std.specs.List.{Contains}
+use Rattle.std.proofs.lemmas.List.Elements.{All-contains, All-contains_itself, All-from_recursion, recursion_from_All}
 use Rattle.std.proofs.lemmas.Bool.{ltb-true, lt-ltb, or_cases}
 use Rattle.ac_base.specs.Fit.{rooms_of}
 use Rattle.ac_cost.specs.Sixths.{part_of}
 use Rattle.ac_bound.specs.Bounds.{lower_of}
 use Rattle.ac_bound.proofs.Threes.{of_three}
-use Rattle.ac_seek.specs.Laws.{partial_of, ClosedIsOver, ClosedHasNoFit, ChildrenCover, RootHasAll, SizeExists}
-use Rattle.ac_seek.specs.Trees.{over, closed, lower, tree_size}
+use Rattle.ac_seek.specs.Laws.{partial_of, ClosedIsOver, ClosedHasNoFit, ChildrenAreNext, ChildrenCover, RootHasAll, SizeExists}
+use Rattle.ac_seek.specs.Games.{IsNext}
+use Rattle.ac_seek.specs.Trees.{next_steps, over, closed, lower, tree_size}
 use Rattle.ac_seek.specs.Words.{game_of, FitsHere}
 use Rattle.ac_seek.proofs.Answering.{some-pots}
-use Rattle.ac_seek.proofs.Below.{covers, closed-none}
+use Rattle.ac_seek.proofs.Below.{at_next, covers, closed-none}
 use Rattle.ac_seek.proofs.Looks.{game-is}
 use Rattle.ac_seek.proofs.Roots.{none-feasible}
+use Rattle.ac_seek.proofs.Sizes.{all_next}
 use Rattle.ac_seek.proofs.Wholes.{words-are}
 
 or-left : (a b : Bool) → a ≡ true → (a || b) ≡ true
@@ -58,3 +62,10 @@ pub size-exists : SizeExists
 size-exists v =
     let some = some-pots v in
     (tree_size (game_of v) some.0 [], record { pot = some.0; are = some.1; nodes = refl })
+
+pub children : ChildrenAreNext
+children g channel at s inside =
+    let next = next_steps g.kinds channel at in (
+      λ is. All-contains (IsNext g channel at) next s (All-from_recursion (IsNext g channel at) next (all_next (IsNext g channel at) g channel at inside (λ t ok. ok))) is,
+      λ ok. at_next (Contains next) g channel at s (recursion_from_All (Contains next) next (All-contains_itself next)) ok,
+    )

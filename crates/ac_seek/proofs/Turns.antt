@@ -5,8 +5,8 @@ use Rattle.std.specs.List.{AllByRecursion}
 use Rattle.std.proofs.lemmas.Bool.{le-leb, lt-leb, cond_both}
 use Rattle.ac_seek.specs.declared.step.Step.{Step}
 use Rattle.ac_seek.specs.Games.{Game, IsNext, IsPath, channel_of, boundary_of}
-use Rattle.ac_seek.specs.Trees.{total, of_kinds, of_ends, NonePasses, closed, whole, size, tree_size, next_steps, later_steps}
-use Rattle.ac_seek.specs.Walks.{laters, owed, NothingLeft}
+use Rattle.ac_seek.specs.Trees.{total, of_kinds, of_ends, NonePasses, closed, whole, size, tree_size, next_steps}
+use Rattle.ac_seek.specs.Walks.{later_steps, laters, owed, NothingLeft}
 use Rattle.ac_seek.proofs.Below.{All-left, All-right, covers, step}
 use Rattle.ac_seek.proofs.Sizes.{stable}
 use Rattle.ac_seek.proofs.Paths.{IsShort-path}

@@ -1,6 +1,6 @@
 -- Laws of the tree: this project's own.
 use Rattle.std.specs.Prelude.{◌≡◌, ◌↔◌, ℕ, suc, ◌*◌, ◌^◌, ◌<◌, ◌≤◌, IsTrue, List, [], ◌∷◌}
-use Rattle.std.specs.List.{AllByRecursion}
+use Rattle.std.specs.List.{AllByRecursion, Contains}
 use Rattle.ac_expo.specs.Raw.{channels}
 use Rattle.ac_cost.specs.Parts.{IsFeasible}
 use Rattle.ac_cost.specs.Records.{AtOffset}
@@ -9,7 +9,7 @@ use Rattle.ac_bound.specs.Bounds.{lower_of, IsOver}
 use Rattle.ac_bound.specs.Steps.{kinds_of}
 use Rattle.ac_bound.specs.Ways.{ArePots}
 use Rattle.ac_seek.specs.declared.step.Step.{Step}
-use Rattle.ac_seek.specs.Games.{Game, IsPath, channel_of, boundary_of, spent}
+use Rattle.ac_seek.specs.Games.{Game, IsNext, IsPath, channel_of, boundary_of, spent}
 use Rattle.ac_seek.specs.Trees.{next_steps, closed, size, remaining}
 use Rattle.ac_seek.specs.Words.{game_of, NoneFits, IsTreeSize}
 
@@ -32,6 +32,12 @@ abbrev pub ClosedHasNoFit : Type 0
 ClosedHasNoFit =
     (v : AtOffset) (pot : ℕ → ℕ → ℕ → ℕ) (path : List Step) → ArePots v pot → IsPath (game_of v) path
     → IsTrue (closed (game_of v) pot path) → NoneFits v path
+
+-- the children decide each run that may come next, and no other
+abbrev pub ChildrenAreNext : Type 0
+ChildrenAreNext =
+    (g : Game) (channel at : ℕ) (s : Step) → channel < g.channels
+    → Contains (next_steps g.kinds channel at) s ↔ IsNext g channel at s
 
 -- where none fits that begins with the runs of a child, none fits that begins with those of the node
 abbrev pub ChildrenCover : Type 0

@@ -25,12 +25,6 @@ of_ends kinds (suc n) channel from to = of_kinds (kinds channel) channel from to
 abbrev pub next_steps : (ℕ → ℕ) → ℕ → ℕ → List Step
 next_steps kinds channel at = of_ends kinds (6 - at) channel at (at + 1)
 
--- those behind this one in that order
-abbrev pub later_steps : (ℕ → ℕ) → Step → List Step
-later_steps kinds s =
-    of_kinds (kinds s.channel - s.run.kind) s.channel s.run.from s.run.to (s.run.kind + 1)
-    ++ of_ends kinds (6 - s.run.to) s.channel s.run.from (s.run.to + 1)
-
 -- what is still to come in a part, by potentials of coded channel, part and boundary: that of the channel in hand where it stands, and
 -- those of the later channels from their start
 abbrev pub rest : Game → (ℕ → ℕ → ℕ → ℕ) → ℕ → ℕ → ℕ → ℕ

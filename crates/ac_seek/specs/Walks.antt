@@ -1,5 +1,5 @@
 -- Where a search stands, and what is still to be looked at.
-use Rattle.std.specs.Prelude.{◌≡◌, ℕ, ◌+◌, ◌*◌, ◌<◌, ◌≤◌, List, [], ◌∷◌, ◌++◌, map, slice_index}
+use Rattle.std.specs.Prelude.{◌≡◌, ℕ, ◌+◌, ◌-◌, ◌*◌, ◌<◌, ◌≤◌, List, [], ◌∷◌, ◌++◌, map, slice_index}
 use Rattle.std.specs.List.{AllByRecursion}
 use Rattle.ac_cost.specs.Parts.{FitsAt}
 use Rattle.ac_cost.specs.Records.{AtOffset}
@@ -10,7 +10,7 @@ use Rattle.ac_seek.specs.declared.step.Step.{Step}
 use Rattle.ac_seek.specs.declared.walk.Turn.{Turn}
 use Rattle.ac_seek.specs.declared.walk.Turn.TheVariants.{Found, Ended, Goes}
 use Rattle.ac_seek.specs.Games.{Game, IsPath, channel_of, boundary_of, spent}
-use Rattle.ac_seek.specs.Trees.{total, later_steps, tree_size, NonePasses}
+use Rattle.ac_seek.specs.Trees.{total, of_kinds, of_ends, tree_size, NonePasses}
 use Rattle.ac_seek.specs.declared.answer.Seek.{Seek}
 use Rattle.ac_seek.specs.declared.answer.Seek.TheVariants.{Fits, Never, Spent}
 use Rattle.ac_seek.specs.Words.{game_of, FitsHere, NoneFits}
@@ -21,6 +21,12 @@ pub record Holds (g : Game) (path : List Step) (partial : Partial) : Type 0 wher
   pub done : partial.done ≡ channel_of path
   pub at : partial.at ≡ boundary_of path
   pub right : (part : ℕ) → part < 3 → slice_index partial.spent part ≡ spent g part path
+
+-- the runs that may come in the place of this one, behind it in the order of `next_steps`
+abbrev pub later_steps : (ℕ → ℕ) → Step → List Step
+later_steps kinds s =
+    of_kinds (kinds s.channel - s.run.kind) s.channel s.run.from s.run.to (s.run.kind + 1)
+    ++ of_ends kinds (6 - s.run.to) s.channel s.run.from (s.run.to + 1)
 
 -- the partial assignments that a search has to look at after this one and what completes it, next first
 abbrev pub laters : (ℕ → ℕ) → List Step → List (List Step)

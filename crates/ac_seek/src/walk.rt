@@ -5,8 +5,7 @@ ghost use Rattle.ac_cost.specs.Parts.{FitsAt};
 ghost use Rattle.ac_cost.specs.Runs.{IsRunOf, IsAssignmentOf};
 ghost use Rattle.ac_seek.specs.Boards.{IsBoard};
 ghost use Rattle.ac_seek.specs.Games.{IsNext, channel_of, boundary_of, channel_after, boundary_after};
-ghost use Rattle.ac_seek.specs.Trees.{later_steps};
-ghost use Rattle.ac_seek.specs.Walks.{Holds, laters, IsPassed, IsTurn};
+ghost use Rattle.ac_seek.specs.Walks.{Holds, later_steps, laters, IsPassed, IsTurn};
 ghost use Rattle.ac_seek.specs.Words.{game_of, FitsHere};
 
 use crate::board::{Board, kinds, place};

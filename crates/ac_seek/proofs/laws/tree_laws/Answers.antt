@@ -1,5 +1,5 @@
 use Rattle.ac_seek.proofs.Growing.{bounded, small}
-use Rattle.ac_seek.proofs.Truths.{closed-over, closed-fits, cover, root-all, size-exists}
+use Rattle.ac_seek.proofs.Truths.{closed-over, closed-fits, children, cover, root-all, size-exists}
 use Rattle.ac_seek.proofs.Ones.{one-size}
 use Rattle.ac_seek.proofs.Sizes.{stable}
 use Rattle.ac_seek.proofs.laws.tree_laws.Goals as goal
@@ -30,3 +30,6 @@ returns-clause-bound c = bounded
 
 pub returns-clause-small : goal.returns-clause-small
 returns-clause-small c = small
+
+pub returns-clause-children : goal.returns-clause-children
+returns-clause-children c = children
