@@ -1,20 +1,18 @@
 -- The parts of a frame, over lists of bits.
-use Rattle.std.proofs.Common.{inl, inr, ◌<◌, ◌^◌, ◌≡◌, ◌≢◌, ◌⊎◌, ℕ, zero, suc, ◌+◌, ◌-◌, ◌*◌, ◌≤◌, Bool, List, [], ◌∷◌, ◌++◌, length, take, drop, refl, ap, sym, ◌∙◌, subst, append_assoc, arith, length-append}
+use Rattle.std.proofs.Common.{inl, inr, ◌<◌, ◌^◌, ◌≡◌, ◌≢◌, ◌⊎◌, ℕ, zero, suc, ◌+◌, ◌*◌, ◌≤◌, Bool, List, [], ◌∷◌, ◌++◌, length, take, drop, refl, ap, sym, ◌∙◌, subst, append_assoc, arith, length-append}
 use Rattle.std.proofs.lemmas.List.{drop_at, take-append-le}
 use Rattle.std.specs.Prelude.{Option, Some, None}
 use Rattle.std.proofs.Math.Seq.{take-append-add}
-use Rattle.std.proofs.lemmas.Slice.{between_is}
-use Rattle.std.proofs.lemmas.List.{drop-drop, take-take, length-take-le}
-use borrow.Rule.Slice.PartMut.{mid_of}
+use Rattle.std.proofs.lemmas.List.{drop-drop}
 use Rattle.ac_bits.specs.Bits.{bits, bits_of}
-use Rattle.ac_bits.proofs.Laws.{length-bits, bits_of-append}
+use Rattle.ac_bits.proofs.Laws.{length-bits}
 use Rattle.ac_crc.specs.Remainder.{IsRemainder}
-use Rattle.ac_frame.specs.declared.rows.Row.{Row}
-use Rattle.ac_frame.specs.Rows.{row, spell, widths, group_rows}
+use Rattle.ac_frame.specs.Rows.{Row, row, spell, group_rows}
 use Rattle.ac_base.specs.Sizes.{front_room}
-use Rattle.ac_frame.specs.Padding.{skip, skip_bits, skipped, to_skip, aux_bits}
-use Rattle.ac_frame.specs.Plain.{head_rows, strategy_rows, allocation_rows, reuse_rows, skip_rows, first_block_rows, later_block_rows, later_rows, tail_rows, total_bits, body_rows, plain_rows, front_part, all_part, IsSized, IsPlain}
-use Rattle.ac_frame.proofs.Spelling.{spell-append, widths-append, widths-groups, length-spell, one_spelled}
+use Rattle.ac_sent.specs.Padding.{skip, skip_bits, skipped, to_skip, aux_bits}
+use Rattle.ac_frame.specs.Plain.{head_rows, strategy_rows, allocation_rows, reuse_rows, skip_rows, first_block_rows, later_block_rows, later_rows, tail_rows, total_bits, body_rows, plain_rows, IsSized, IsPlain}
+use Rattle.ac_record.specs.CrcParts.{front_part, all_part}
+use Rattle.ac_frame.proofs.Spelling.{widths, spell-append, widths-append, widths-groups, length-spell, one_spelled}
 use Rattle.ac_frame.proofs.Skips.{skipped_is, room_left}
 
 take_none : (n : ℕ) → take {A = Bool} n [] ≡ []
@@ -57,27 +55,6 @@ widths-allocation = refl
 widths-reuse : widths reuse_rows ≡ 9
 unfolding reuse_rows widths
 widths-reuse = refl
-
--- three pieces, each placed behind the one before
-pub placed : (o0 o1 o2 o3 s c b : List ℕ) (n1 n2 n3 : ℕ) → take n1 o1 ≡ take 0 o0 ++ s → take n2 o2 ≡ take 2 o1 ++ c → take n3 o3 ≡ take 4 o2 ++ b → n1 ≡ 2 → n2 ≡ 4 → take n3 o3 ≡ s ++ (c ++ b)
-placed o0 o1 o2 o3 s c b n1 n2 n3 p1 p2 p3 h1 h2 =
-    let e1 : take 2 o1 ≡ s = ap (λ n. take n o1) (sym h1) ∙ p1 in
-    let e2 : take 4 o2 ≡ s ++ c = ap (λ n. take n o2) (sym h2) ∙ (p2 ∙ ap (λ l. l ++ c) e1) in
-    p3 ∙ (ap (λ l. l ++ b) e2 ∙ append_assoc s c b)
-
--- what stands behind the first two bytes
-pub behind_two : (o s t : List ℕ) (n : ℕ) → take n o ≡ s ++ t → length s ≡ 2 → mid_of 2 (n - 2) o ≡ t
-behind_two o s t n e h = between_is o 2 n ∙ (ap (drop 2) e ∙ drop_at s t 2 h)
-
--- two lists that agree from a place on agree further on
-pub drop_further : (x y : List ℕ) (a n : ℕ) → drop a x ≡ drop a y → a ≤ n → drop n x ≡ drop n y
-drop_further x y a n e h =
-    let k : n ≡ a + (n - a) = omega arith in
-    ap (λ m. drop m x) k ∙ (sym (drop-drop (n - a) a x) ∙ (ap (drop (n - a)) e ∙ (drop-drop (n - a) a y ∙ ap (λ m. drop m y) (sym k))))
-
--- the bits of three pieces
-pub bits_of-three : (s c b : List ℕ) → bits_of (s ++ (c ++ b)) ≡ bits_of s ++ (bits_of c ++ bits_of b)
-bits_of-three s c b = bits_of-append s (c ++ b) ∙ ap (λ l. bits_of s ++ l) (bits_of-append c b)
 
 widths-skip : (s : Option ℕ) → widths (skip_rows s) ≡ 1 + skip_bits s
 unfolding skip_rows widths
@@ -207,23 +184,6 @@ is_plain a frame crc1 r crc2 m s e fit whole front all reserved =
       all = subst Zero (sym (ap all_part same ∙ all_of a crc1 r crc2)) all;
       reserved = elim reserved [ inl p ↦ inl p | inr p ↦ inr (p.0, subst Zero (sym (all_of a crc1 0 0x0B77)) p.1) ];
     }
-
--- a front of bytes that stand in front of a buffer
-pub front_bits : (l : List ℕ) (k n : ℕ) → k ≤ n → bits_of (take k l) ≡ take (8 * k) (bits_of (take n l))
-front_bits l k n h = ap bits_of (sym (take-take k n l h)) ∙ bits_of-take k (take n l)
-
--- a frame whose middle bytes are known by their bits
-pub assembled : (frame buf : List ℕ) (n crc1 crc2 : ℕ) (middle : List Bool) → n ≤ length buf → bits_of (take n buf) ≡ middle
-    → bits_of (take (length (take n buf) + 6) frame) ≡ bits 0x0B77 16 ++ (bits crc1 16 ++ (bits_of (take n buf) ++ bits crc2 16))
-    → bits_of (take (n + 6) frame) ≡ bits 0x0B77 16 ++ (bits crc1 16 ++ (middle ++ bits crc2 16))
-assembled frame buf n crc1 crc2 middle h e f =
-    ap (λ k. bits_of (take (k + 6) frame)) (sym (length-take-le n buf h))
-    ∙ (f ∙ ap (λ l. bits 0x0B77 16 ++ (bits crc1 16 ++ (l ++ bits crc2 16))) e)
-
-pub closed : (buf : List ℕ) (n crc1 crc2 : ℕ) (middle : List Bool) → bits_of (take n buf) ≡ middle
-    → IsRemainder (bits crc1 16 ++ (bits_of (take n buf) ++ bits crc2 16)) 0
-    → IsRemainder (bits crc1 16 ++ (middle ++ bits crc2 16)) 0
-closed buf n crc1 crc2 middle e r = subst (λ (l : List Bool). IsRemainder (bits crc1 16 ++ (l ++ bits crc2 16)) 0) e r
 
 drop_none : (n : ℕ) → drop {A = Bool} n [] ≡ []
 drop_none zero = refl

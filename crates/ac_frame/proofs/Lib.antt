@@ -1,5 +1,6 @@
+pub mod Blocks
 pub mod Frames
+pub mod Packed
 pub mod Skips
 pub mod Spelling
 pub mod Unique
-pub mod Widths

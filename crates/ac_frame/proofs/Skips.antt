@@ -1,29 +1,14 @@
--- Skip fields: their rows, and how much they take.
-use Rattle.std.proofs.Common.{◌≢◌, inl, inr, ◌≡◌, ℕ, zero, suc, ◌+◌, ◌-◌, ◌*◌, ◌/◌, ◌<◌, ◌≤◌, min, refl, ap, ◌∙◌, arith, Bool, List, [], ◌∷◌}
+-- Skip fields: how much they take.
+use Rattle.std.proofs.Common.{◌≢◌, inl, inr, ◌≡◌, ℕ, zero, suc, ◌+◌, ◌-◌, ◌*◌, ◌/◌, ◌<◌, ◌≤◌, min, refl, ap, ◌∙◌, arith}
 use Rattle.std.proofs.lemmas.Bool.{cases_lt}
-use Rattle.ac_bits.specs.Bits.{bits, Appends}
-use Rattle.ac_frame.specs.Rows.{row, spell}
 use Rattle.ac_base.specs.Sizes.{front_room}
-use Rattle.ac_frame.specs.Padding.{skip, skipl_of, skip_bits, skipped, to_skip}
-use Rattle.ac_frame.specs.Plain.{skip_rows, tail_rows, total_bits}
-use Rattle.ac_frame.proofs.Spelling.{one_row, row-then}
+use Rattle.ac_sent.specs.Padding.{skip, skipl_of, skip_bits, skipped, to_skip}
+use Rattle.ac_frame.specs.Plain.{total_bits}
 use Rattle.std.specs.Prelude.{Some, None}
 
 pub skipped_is : (x : ℕ) → skipped x ≡ skip_bits (skip x 1) + skip_bits (skip x 2) + skip_bits (skip x 3) + skip_bits (skip x 4) + skip_bits (skip x 5)
 unfolding skipped
 skipped_is x = refl
-
-pub skips_none : {a b : List Bool} → Appends a b (bits 0 1) → Appends a b (spell (skip_rows None))
-unfolding skip_rows
-skips_none {a} {b} p = one_row (row 0 1) p
-
-pub skips_some : {a b c d : List Bool} (k : ℕ) → Appends a b (bits 1 1) → Appends b c (bits k 9) → Appends c d (bits 0 (8 * k)) → Appends a d (spell (skip_rows (Some k)))
-unfolding skip_rows
-skips_some {a} {b} {c} {d} k p q r = row-then (row 1 1) (row k 9 ∷ row 0 (8 * k) ∷ []) p (row-then (row k 9) (row 0 (8 * k) ∷ []) q (one_row (row 0 (8 * k)) r))
-
-pub tail_spelled : {a b c d : List Bool} (aux crcrsv : ℕ) → Appends a b (bits 0 aux) → Appends b c (bits 0 1) → Appends c d (bits crcrsv 1) → Appends a d (spell (tail_rows aux crcrsv))
-unfolding tail_rows
-tail_spelled {a} {b} {c} {d} aux crcrsv p q r = row-then (row 0 aux) (row 0 1 ∷ row crcrsv 1 ∷ []) p (row-then (row 0 1) (row crcrsv 1 ∷ []) q (one_row (row crcrsv 1) r))
 
 -- the bits of the skip field of a block that is to take n bits
 field : ℕ → ℕ

@@ -6,7 +6,9 @@ use Rattle.ac_crc.specs.Remainder.{IsRemainder}
 use Rattle.ac_crc.proofs.Remainders.{trails, one_trailing, one_leading, last_bit_turned}
 use Rattle.ac_frame.specs.Rows.{spell}
 use Rattle.ac_base.specs.Sizes.{front_room}
-use Rattle.ac_frame.specs.Plain.{plain_rows, front_part, all_part, AreBytes, IsPlain}
+use Rattle.ac_record.specs.CrcParts.{front_part, all_part}
+use Rattle.ac_record.specs.Laws.{AreBytes}
+use Rattle.ac_frame.specs.Plain.{plain_rows, IsPlain}
 use Rattle.ac_frame.proofs.Frames.{Made, Sized, body, before, body_split, bits_of-take, bits_of-drop, front_is, all_of, all_rows, length-body}
 
 abbrev pub Plain : Made → List ℕ → Type 0

@@ -1,3 +1,3 @@
-pub mod Padding
+pub mod Mono
 pub mod Plain
 pub mod Rows

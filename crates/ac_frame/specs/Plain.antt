@@ -1,13 +1,15 @@
 -- The plain frame (A/52 5.3): mono, SNR offset 0, exponents D45 in block 0 and reuse after it, no mantissas. The values that
--- stand in its rows are this project's choice.
-use Rattle.std.specs.Prelude.{◌≡◌, ◌≢◌, ◌⊎◌, ℕ, ◌+◌, ◌*◌, ◌^◌, ◌<◌, ◌≤◌, slice_index, Bool, List, [], ◌∷◌, ◌++◌, length, take, drop, Option, Some, None}
+-- stand in its rows are this project's choice. Here each field is written out as a number and a width, with nothing of the fields
+-- of other layouts: what is packed for such values is this frame, by `plain_law`.
+use Rattle.std.specs.Prelude.{◌≡◌, ◌≢◌, ◌⊎◌, ℕ, ◌+◌, ◌*◌, ◌^◌, ◌<◌, ◌≤◌, List, [], ◌∷◌, ◌++◌, length}
+use Rattle.std.specs.Prelude.{Option, Some, None}
 use Rattle.ac_bits.specs.Bits.{bits_of}
 use Rattle.ac_crc.specs.Remainder.{IsRemainder}
-use Rattle.ac_frame.specs.declared.rows.Row.{Row}
-use Rattle.ac_frame.specs.Rows.{row, spell, group_rows}
-use Rattle.ac_base.specs.Sizes.{front_room, tail_bits}
+use Rattle.ac_frame.specs.Rows.{Row, row, spell, group_rows}
+use Rattle.ac_base.specs.Sizes.{tail_bits}
 use Rattle.ac_base.specs.Profile.{sent_sdcycod, sent_fdcycod, sent_sgaincod, sent_dbpbcod, sent_floorcod, sent_fgaincod}
-use Rattle.ac_frame.specs.Padding.{skip, to_skip, aux_bits}
+use Rattle.ac_record.specs.CrcParts.{front_part, all_part}
+use Rattle.ac_sent.specs.Padding.{skip, to_skip, aux_bits}
 
 -- syncinfo and bsi behind crc1 (A/52 5.3.1 and 5.4.1, 5.3.2 and 5.4.2)
 unfoldable pub head_rows : ℕ → ℕ → List Row
@@ -125,23 +127,11 @@ plain_rows fscod frmsizecod words bw first groups crc1 crcrsv crc2 =
     ∷ (body_rows fscod frmsizecod words bw first groups crcrsv
     ++ row crc2 16 ∷ [])
 
--- the bits that crc1 makes whole: the first CRC part without the syncword (A/52 7.10.1)
-abbrev pub front_part : ℕ → List Bool → List Bool
-front_part words frame = drop 16 (take (front_room words) frame)
-
--- the bits that crc2 makes whole: the frame without the syncword (A/52 7.10.1)
-abbrev pub all_part : List Bool → List Bool
-all_part frame = drop 16 frame
-
 -- a size that a frame may have (A/52 Table 5.18), and no more groups than the widest channel has (7.1.3)
 pub record IsSized (words : ℕ) (groups : List ℕ) : Type 0 where
   pub least : 64 ≤ words
   pub most : words ≤ 1920
   pub few : length groups ≤ 21
-
--- each is a byte
-abbrev pub AreBytes : List ℕ → Type 0
-AreBytes frame = (k : ℕ) → k < length frame → slice_index frame k < 2 ^ 8
 
 -- These bytes are the plain frame (A/52 5.3, 7.10.1). crcrsv is 0, or 1 where crc2 would else be the syncword (5.4.5.1).
 pub record IsPlain (fscod frmsizecod words bw first : ℕ) (groups frame : List ℕ) : Type 0 where

@@ -1,7 +1,10 @@
 -- A frame as a list of rows (A/52 5.3): each is a field, as its number and its width in bits.
-use Rattle.std.specs.Prelude.{ℕ, ◌+◌, ◌^◌, ◌<◌, ◌≤◌, Bool, List, [], ◌∷◌, ◌++◌}
+use Rattle.std.specs.Prelude.{ℕ, Bool, List, [], ◌∷◌, ◌++◌}
 use Rattle.ac_bits.specs.Bits.{bits}
-use Rattle.ac_frame.specs.declared.rows.Row.{Row}
+
+pub record Row : Type 0 where
+  pub value : ℕ  -- the field's number
+  pub width : ℕ  -- how many bits it has
 
 -- a field with this number and width
 abbrev pub row : ℕ → ℕ → Row
@@ -11,16 +14,6 @@ row value width = record { value = value; width = width }
 unfoldable pub spell : List Row → List Bool
 spell [] = []
 spell (r ∷ rows) = bits r.value r.width ++ spell rows
-
--- how many bits they are
-unfoldable pub widths : List Row → ℕ
-widths [] = 0
-widths (r ∷ rows) = r.width + widths rows
-
--- each number fits its field, and each field a word of 32 bits
-unfoldable pub Fit : List Row → Type 0
-Fit [] = Unit {0}
-Fit (r ∷ rows) = (r.width ≤ 32) × (r.value < 2 ^ r.width) × Fit rows
 
 -- the groups of an exponent list, 7 bits each (A/52 5.4.3.27)
 unfoldable pub group_rows : List ℕ → List Row

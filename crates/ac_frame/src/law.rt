@@ -1,13 +1,25 @@
-ghost use Rattle.std.specs.Prelude.{◌↔◌, ◌<◌, Option, Some, None, ◌≡◌, ◌≢◌, ℕ, ◌+◌, ◌*◌, ◌/◌, ◌≤◌, List, length, take, drop};
+ghost use Rattle.std.specs.Prelude.{◌↔◌, ◌<◌, Some, None, ◌≡◌, ◌≢◌, ℕ, ◌+◌, ◌*◌, ◌/◌, ◌≤◌, List, length, take, drop};
 ghost use Rattle.ac_bits.specs.Bits.{bits_of};
 ghost use Rattle.ac_crc.specs.Remainder.{IsRemainder};
 ghost use Rattle.ac_base.specs.Sizes.{front_room};
-ghost use Rattle.ac_frame.specs.Padding.{aux_bits, aux_room, left_over, skip, skip_bits, skipl_of, skipped, to_skip};
-ghost use Rattle.ac_frame.specs.Plain.{total_bits, AreBytes, IsSized, IsPlain};
+ghost use Rattle.ac_sent.specs.Padding.{aux_bits, aux_room, left_over, skip, skip_bits, skipl_of, skipped, to_skip};
+ghost use Rattle.ac_record.specs.Laws.{AreBytes};
+ghost use Rattle.ac_sent.specs.Asked.{IsQuantised, IsSizeCode};
+ghost use Rattle.ac_sent.specs.Packed.{IsPacked};
+ghost use Rattle.ac_sent.specs.Values.{Quantised};
+ghost use Rattle.ac_frame.specs.Mono.{IsSilentMono, spelling};
+ghost use Rattle.ac_frame.specs.Plain.{total_bits, IsSized, IsPlain};
 
-/// What is true of every plain frame: its size, the remainders of both CRC parts (A/52 7.10.1),
-/// that crc2 is never the syncword, and that there is one plain frame of given exponents.
+/// For one channel without LFE or coupling, SNR offset 0, D45 in block 0 and reuse behind it, the frame that is packed is the plain
+/// frame, and a plain frame of these exponents is the one that is packed. And what is true of every plain frame: its size, the
+/// remainders of both CRC parts (A/52 7.10.1), that crc2 is never the syncword, and that there is one plain frame of given exponents.
 pub fn plain_law()
+    ensures packed { (q : Quantised) (frame : List ℕ) → IsQuantised q → IsSilentMono q → (p : IsPacked q frame)
+        → IsPlain q.shape.fscod p.frmsizecod q.shape.words q.shape.bw (spelling q).first (spelling q).groups frame }
+    ensures packs { (q : Quantised) (frmsizecod : ℕ) (frame : List ℕ) → IsQuantised q → IsSilentMono q
+        → IsSizeCode q.shape.fscod q.shape.words frmsizecod
+        → IsPlain q.shape.fscod frmsizecod q.shape.words q.shape.bw (spelling q).first (spelling q).groups frame → IsPacked q frame }
+    ensures sized { (q : Quantised) → IsSilentMono q → IsSized q.shape.words (spelling q).groups }
     ensures size { (fscod frmsizecod words bw first : ℕ) (groups frame : List ℕ) → IsSized words groups
         → IsPlain fscod frmsizecod words bw first groups frame → length frame ≡ 2 * words }
     ensures first_part { (fscod frmsizecod words bw first : ℕ) (groups frame : List ℕ)

@@ -1,21 +1,16 @@
-//! Whole frames (A/52 5.3): the plain frame, which carries exponents and no mantissas.
+//! The one door to whole frames (A/52 5.3): their size, reading and packing, and what is handed in and out.
 //!
-//! The plain frame is mono with SNR offset 0, at which no bin has bits: D45 exponents in block
-//! 0, reuse after it, and what is left over as padding.
-//!
-//! A frame is stated as the concatenation of its rows, each a field with its number and its
-//! width, in the order of A/52 5.3. Its size in words, its padding and both CRC words belong
-//! to the statement.
+//! `pack` writes the frame of values that are handed in, `read` gives the values of a frame's bytes or its first fault, and `size`
+//! tells from the first bytes how many a frame has. The laws say what is true of every frame, whoever wrote it.
 #![tactic(auto)]
 
-mod blocks;
-mod frame;
-mod head;
 mod law;
-mod padding;
-mod rows;
-mod size;
 
-pub use frame::plain;
+pub use ac_packing::{pack, pack_law};
+pub use ac_reading::{read, size};
+pub use ac_record::{FrameCodes, FrameFault, record_laws};
+pub use ac_sent::{Quantised, frame_code, sent_laws};
 pub use law::{padding_law, plain_law};
-pub use size::Size;
+
+#[cfg(test)]
+mod tests;

@@ -1,5 +1,5 @@
 use Rattle.std.proofs.Common.{arith, length}
-use Rattle.ac_frame.specs.Padding.{to_skip}
+use Rattle.ac_sent.specs.Padding.{to_skip}
 use Rattle.ac_frame.specs.Plain.{total_bits}
 use Rattle.ac_frame.proofs.Skips.{skipl_none, skipl_zero, skipl_takes, skipl_least, skipl_full, skip_order, front_kept, room_left, skips_within}
 use Rattle.ac_frame.proofs.law.padding_law.Goals as goal

@@ -1,6 +1,7 @@
 use Rattle.std.proofs.Common.{ℕ, List}
 use Rattle.ac_frame.proofs.Frames.{Made}
 use Rattle.ac_frame.proofs.Unique.{frame_size, first_part, both_parts, no_sync, one_frame}
+use Rattle.ac_frame.proofs.Packed.{plain_of, packed_of, is_sized}
 use Rattle.ac_frame.proofs.law.plain_law.Goals as goal
 
 abbrev made : ℕ → ℕ → ℕ → ℕ → ℕ → List ℕ → Made
@@ -20,3 +21,12 @@ returns-clause-no_sync c = λ fscod frmsizecod words bw first groups frame p. no
 
 pub returns-clause-one : goal.returns-clause-one
 returns-clause-one c = λ fscod frmsizecod words bw first groups f g s bf bg p q. one_frame (made fscod frmsizecod words bw first groups) f g s bf bg p q
+
+pub returns-clause-packed : goal.returns-clause-packed
+returns-clause-packed c = λ q frame is m p. plain_of q frame is m p
+
+pub returns-clause-packs : goal.returns-clause-packs
+returns-clause-packs c = λ q code frame is m size p. packed_of q code frame is m size p
+
+pub returns-clause-sized : goal.returns-clause-sized
+returns-clause-sized c = λ q m. is_sized q m
