@@ -5,12 +5,14 @@
 #![tactic(auto)]
 
 mod law;
+mod packing;
 
-pub use ac_packing::{pack, pack_law};
+pub use ac_packing::pack_law;
 pub use ac_reading::{read, size};
 pub use ac_record::{FrameCodes, FrameFault, record_laws};
 pub use ac_sent::{Quantised, frame_code, sent_laws};
 pub use law::{padding_law, plain_law};
+pub use packing::pack;
 
 #[cfg(test)]
 mod tests;
