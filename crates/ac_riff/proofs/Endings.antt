@@ -1,7 +1,7 @@
 -- A list of bytes ends in one way before its data: by its head, by what stands behind its chunks, or by its `fmt ` chunk.
 use Rattle.std.proofs.Common.{◌≡◌, ◌⊎◌, ℕ, ◌+◌, ◌≤◌, ◌<◌, List, length, drop, Option, None, Some, inl, inr, refl, sym, ap, subst, ◌∙◌, arith}
 use Rattle.ac_riff.specs.declared.fault.WavKind.{WavKind}
-use Rattle.ac_riff.specs.declared.fault.WavKind.TheVariants.{Short, NotRiff, NoFmt, NoData, BadFmt, Unsupported, NotYet}
+use Rattle.ac_riff.specs.declared.fault.WavKind.TheVariants.{Short, NotRiff, NoFmt, NoData, BadFmt, Unsupported}
 use Rattle.ac_riff.specs.declared.format.Fault.{Fault}
 use Rattle.ac_riff.specs.declared.head.WavHead.{WavHead}
 use Rattle.ac_riff.specs.Format.{format_of, fault_of}
@@ -92,7 +92,6 @@ sorted bytes NoFmt place r = inr (inl (record { at = place; reaches = inl r.0; e
 sorted bytes NoData place r = inr (inl (record { at = place; reaches = r.1; ends = inr (inr (refl, refl, r.0)) }))
 sorted bytes (BadFmt field) place r = inr (inr r)
 sorted bytes (Unsupported field value) place r = inr (inr r)
-sorted bytes NotYet place r = absurd r
 
 late_end : (bytes : List ℕ) (kind : WavKind) (place at : ℕ) → IsEndOf bytes kind place at → IsEnd bytes at
 late_end bytes kind place at (inl c) = inr (inl c.2)
@@ -124,7 +123,6 @@ never_both bytes head NoData place h r =
     data_inside bytes place (subst (λ (p : ℕ). IsDataAt bytes p) same h.at) r.0
 never_both bytes head (BadFmt field) place h r = formatted_fine bytes h.chunk h.place (BadFmt field) place h.formatted r
 never_both bytes head (Unsupported field value) place h r = formatted_fine bytes h.chunk h.place (Unsupported field value) place h.formatted r
-never_both bytes head NotYet place h r = r
 
 pub one_head : (bytes : List ℕ) (head other : WavHead) → IsHead bytes head → IsHead bytes other → head ≡ other
 one_head bytes head other h k =

@@ -3,7 +3,7 @@ use Rattle.std.proofs.Common.{◌≡◌, ◌⊎◌, ℕ, ◌+◌, ◌-◌, ◌�
 use Rattle.std.specs.List.{concat}
 use Rattle.std.proofs.lemmas.List.{take-take}
 use Rattle.ac_riff.specs.declared.fault.WavKind.{WavKind}
-use Rattle.ac_riff.specs.declared.fault.WavKind.TheVariants.{Short, NotRiff, NoFmt, NoData, BadFmt, Unsupported, NotYet}
+use Rattle.ac_riff.specs.declared.fault.WavKind.TheVariants.{Short, NotRiff, NoFmt, NoData, BadFmt, Unsupported}
 use Rattle.ac_riff.specs.declared.head.WavHead.{WavHead}
 use Rattle.ac_riff.specs.Format.{format_of}
 use Rattle.ac_riff.specs.Form.{body_of, IsRiff, IsOpen, IsFormatted, IsDataAt, IsHead, head_of}
@@ -125,4 +125,3 @@ refused_back bytes limit NoData place h r =
     inr (inr (sym long, subst (λ (p : ℕ). Reaches (take limit bytes) p) (r.0 ∙ long) r.1))
 refused_back bytes limit (BadFmt field) place h r = inl (faulty_back bytes limit (BadFmt field) place r)
 refused_back bytes limit (Unsupported field value) place h r = inl (faulty_back bytes limit (Unsupported field value) place r)
-refused_back bytes limit NotYet place h r = absurd r

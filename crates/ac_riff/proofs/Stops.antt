@@ -3,7 +3,7 @@ use Rattle.std.proofs.Common.{◌≡◌, ◌≢◌, ℕ, ◌+◌, ◌-◌, ◌�
 use Rattle.std.specs.Prelude.{codes}
 use Rattle.std.proofs.lemmas.List.{take_all, take-take}
 use Rattle.ac_riff.specs.declared.fault.WavKind.{WavKind}
-use Rattle.ac_riff.specs.declared.fault.WavKind.TheVariants.{Short, NotRiff, NoFmt, NoData, BadFmt, Unsupported, NotYet}
+use Rattle.ac_riff.specs.declared.fault.WavKind.TheVariants.{Short, NotRiff, NoFmt, NoData, BadFmt, Unsupported}
 use Rattle.ac_riff.specs.declared.fault.WavFault.{WavFault}
 use Rattle.ac_riff.specs.declared.fault.WavFault.TheVariants.{Bad, ReadFault, TooLong}
 use Rattle.ac_riff.specs.declared.format.Fault.{Fault}
@@ -45,7 +45,6 @@ no_chunk_stops bytes place limit (Bad NoData at) r below within n =
     whole_front bytes limit NoData at (omega (arith, n.1)) (n.0, subst (λ (p : ℕ). Reaches bytes p) (n.1 ∙ sym n.0) r)
 no_chunk_stops bytes place limit (Bad (BadFmt field) at) r below within n = absurd n
 no_chunk_stops bytes place limit (Bad (Unsupported field value) at) r below within n = absurd n
-no_chunk_stops bytes place limit (Bad NotYet at) r below within n = absurd n
 no_chunk_stops bytes place limit ReadFault r below within n = tt
 no_chunk_stops bytes place limit TooLong r below within n = cut_head bytes place limit r below n.0 n.1
 
@@ -59,7 +58,6 @@ cut_stops bytes place limit (Bad NoFmt at) r below within nd u = absurd u
 cut_stops bytes place limit (Bad NoData at) r below within nd u = absurd u
 cut_stops bytes place limit (Bad (BadFmt field) at) r below within nd u = absurd u
 cut_stops bytes place limit (Bad (Unsupported field value) at) r below within nd u = absurd u
-cut_stops bytes place limit (Bad NotYet at) r below within nd u = absurd u
 cut_stops bytes place limit ReadFault r below within nd u = tt
 cut_stops bytes place limit TooLong r below within nd u =
     let long : length (take limit bytes) ≡ limit = length_cut bytes limit (omega (arith, u.0)) in
@@ -121,7 +119,6 @@ refused bytes NoFmt place k f = absurd k
 refused bytes NoData place k f = absurd k
 refused bytes (BadFmt field) place k f = f
 refused bytes (Unsupported field value) place k f = f
-refused bytes NotYet place k f = absurd k
 
 -- the `fmt ` chunk was read, and a test of it fails
 pub faulty_stops : (bytes : List ℕ) (place limit size : ℕ) (format : Format) (fault : Fault) (left : Option (List ℕ)) → IsOpen bytes place → name_of (drop place bytes) ≡ codes "fmt " → size ≡ size_of (drop place bytes)
@@ -164,7 +161,6 @@ untaken_riff_stops bytes limit (Bad NoFmt at) u = absurd u
 untaken_riff_stops bytes limit (Bad NoData at) u = absurd u
 untaken_riff_stops bytes limit (Bad (BadFmt field) at) u = absurd u
 untaken_riff_stops bytes limit (Bad (Unsupported field value) at) u = absurd u
-untaken_riff_stops bytes limit (Bad NotYet at) u = absurd u
 untaken_riff_stops bytes limit ReadFault u = tt
 untaken_riff_stops bytes limit TooLong u =
     let long : length (take limit bytes) ≡ limit = length_cut bytes limit (omega (arith, u.0)) in

@@ -3,7 +3,7 @@
 use Rattle.std.specs.Prelude.{◌≡◌, ◌≤◌, ◌⊎◌, ℕ, ◌*◌, ◌/◌, ◌%◌, ◌^◌, Bool, not, ◌==◌, ◌||◌, ◌&&◌, leb, if◌then◌else◌, List, [], ◌∷◌, length, drop, Option, Some, None}
 use Rattle.byteorder.specs.Endian.{little_number}
 use Rattle.ac_riff.specs.declared.fault.WavKind.{WavKind}
-use Rattle.ac_riff.specs.declared.fault.WavKind.TheVariants.{Short, NotRiff, NoFmt, NoData, BadFmt, Unsupported, NotYet}
+use Rattle.ac_riff.specs.declared.fault.WavKind.TheVariants.{Short, NotRiff, NoFmt, NoData, BadFmt, Unsupported}
 use Rattle.ac_riff.specs.declared.fault.Field.TheVariants as fields
 use Rattle.ac_riff.specs.declared.format.Format.{Format}
 use Rattle.ac_riff.specs.declared.format.Fault.{Fault}
@@ -96,7 +96,6 @@ IsOfField NoFmt = ⊥
 IsOfField NoData = ⊥
 IsOfField (BadFmt field) = Unit {0}
 IsOfField (Unsupported field value) = Unit {0}
-IsOfField NotYet = ⊥
 
 -- ---- what an accepted format says
 

@@ -1,7 +1,7 @@
 -- What the pieces that are read tell of the whole list. The reader, its limit and its refusals are this project's own.
 use Rattle.std.specs.Prelude.{◌≡◌, ◌≢◌, ℕ, ◌+◌, ◌≤◌, ◌<◌, min, List, length, take, drop, codes, Option}
 use Rattle.ac_io.specs.Within.{IsAt, StandsIn}
-use Rattle.ac_riff.specs.declared.fault.WavKind.TheVariants.{Short, NotRiff, NoFmt, NoData, BadFmt, Unsupported, NotYet}
+use Rattle.ac_riff.specs.declared.fault.WavKind.TheVariants.{Short, NotRiff, NoFmt, NoData, BadFmt, Unsupported}
 use Rattle.ac_riff.specs.declared.fault.WavFault.{WavFault}
 use Rattle.ac_riff.specs.declared.fault.WavFault.TheVariants.{Bad, ReadFault, TooLong}
 use Rattle.ac_riff.specs.declared.chunk.Name.{Name}
@@ -34,7 +34,6 @@ IsUntaken bytes taken n limit (Bad NoFmt place) = ⊥
 IsUntaken bytes taken n limit (Bad NoData place) = ⊥
 IsUntaken bytes taken n limit (Bad (BadFmt field) place) = ⊥
 IsUntaken bytes taken n limit (Bad (Unsupported field value) place) = ⊥
-IsUntaken bytes taken n limit (Bad NotYet place) = ⊥
 IsUntaken bytes taken n limit ReadFault = Unit {0}
 IsUntaken bytes taken n limit TooLong = (limit < length bytes) × (limit < taken + n)
 
@@ -61,7 +60,6 @@ IsNoChunk bytes place limit (Bad NotRiff at) = ⊥
 IsNoChunk bytes place limit (Bad NoFmt at) = ⊥
 IsNoChunk bytes place limit (Bad (BadFmt field) at) = ⊥
 IsNoChunk bytes place limit (Bad (Unsupported field value) at) = ⊥
-IsNoChunk bytes place limit (Bad NotYet at) = ⊥
 IsNoChunk bytes place limit ReadFault = Unit {0}
 IsNoChunk bytes place limit TooLong = (limit < length bytes) × (limit < place + 8)
 

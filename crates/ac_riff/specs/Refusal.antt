@@ -3,7 +3,7 @@
 use Rattle.std.specs.Prelude.{◌≡◌, ◌≢◌, ℕ, ◌+◌, ◌≤◌, ◌<◌, ◌⊎◌, List, length, take, drop, codes, Option, Some, Result, Ok, Err}
 use Rattle.ac_io.specs.Within.{IsAt, TakesAtMost}
 use Rattle.ac_riff.specs.declared.fault.WavKind.{WavKind}
-use Rattle.ac_riff.specs.declared.fault.WavKind.TheVariants.{Short, NotRiff, NoFmt, NoData, BadFmt, Unsupported, NotYet}
+use Rattle.ac_riff.specs.declared.fault.WavKind.TheVariants.{Short, NotRiff, NoFmt, NoData, BadFmt, Unsupported}
 use Rattle.ac_riff.specs.declared.fault.WavFault.{WavFault}
 use Rattle.ac_riff.specs.declared.fault.WavFault.TheVariants.{Bad, ReadFault, TooLong}
 use Rattle.ac_riff.specs.declared.format.Fault.{Fault}
@@ -52,7 +52,6 @@ Refuses bytes NoFmt place = IsOpen bytes place × IsDataAt bytes place
 Refuses bytes NoData place = (place ≡ length bytes) × Reaches bytes place
 Refuses bytes (BadFmt field) place = IsFaulty bytes (BadFmt field) place
 Refuses bytes (Unsupported field value) place = IsFaulty bytes (Unsupported field value) place
-Refuses bytes NotYet place = ⊥
 
 -- more than the first `limit` bytes are needed to read the head or to refuse it, and more are there
 abbrev pub IsTooLong : List ℕ → ℕ → Type 0
@@ -73,7 +72,6 @@ RefusalLeaves bytes limit (Bad NotRiff place) left = TakesAtMost bytes limit lef
 RefusalLeaves bytes limit (Bad NoFmt place) left = TakesAtMost bytes limit left
 RefusalLeaves bytes limit (Bad (BadFmt field) place) left = TakesAtMost bytes limit left
 RefusalLeaves bytes limit (Bad (Unsupported field value) place) left = TakesAtMost bytes limit left
-RefusalLeaves bytes limit (Bad NotYet place) left = ⊥
 RefusalLeaves bytes limit ReadFault left = TakesAtMost bytes limit left
 RefusalLeaves bytes limit TooLong left = IsAt bytes (limit + 1) left
 

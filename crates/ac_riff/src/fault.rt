@@ -38,8 +38,6 @@ pub enum WavKind {
     BadFmt(Field),
     /// This field has a value outside the profile.
     Unsupported(Field, u32),
-    /// The layout isn't encoded yet. The reader of heads never answers it.
-    NotYet,
 }
 
 /// Why a WAV wasn't read.

@@ -3,7 +3,7 @@ use Rattle.std.proofs.Common.{◌≡◌, ◌≢◌, ◌⊎◌, ℕ, ◌+◌, ◌
 use Rattle.std.specs.Prelude.{ℤ}
 use Rattle.std.proofs.lemmas.Bool.{cases_lt}
 use Rattle.std.proofs.Math.Nat.{div-mul-le_self}
-use Rattle.ac_riff.specs.declared.fault.WavKind.TheVariants.{Short, NotRiff, NoFmt, NoData, BadFmt, Unsupported, NotYet}
+use Rattle.ac_riff.specs.declared.fault.WavKind.TheVariants.{Short, NotRiff, NoFmt, NoData, BadFmt, Unsupported}
 use Rattle.ac_riff.specs.declared.fault.WavFault.{WavFault}
 use Rattle.ac_riff.specs.declared.fault.WavFault.TheVariants.{Bad, ReadFault, TooLong}
 use Rattle.ac_riff.specs.declared.head.WavHead.{WavHead}
@@ -53,7 +53,6 @@ unread_stops_exactly bytes head before limit (Bad NoFmt place) u nf = absurd u
 unread_stops_exactly bytes head before limit (Bad NoData place) u nf = absurd u
 unread_stops_exactly bytes head before limit (Bad (BadFmt field) place) u nf = absurd u
 unread_stops_exactly bytes head before limit (Bad (Unsupported field value) place) u nf = absurd u
-unread_stops_exactly bytes head before limit (Bad NotYet place) u nf = absurd u
 unread_stops_exactly bytes head before limit ReadFault u nf = absurd (nf refl)
 unread_stops_exactly bytes head before limit TooLong u nf = record {
   too_long = λ _. refl;

@@ -2,7 +2,7 @@
 use Rattle.std.proofs.Common.{◌≡◌, ℕ, ◌+◌, ◌-◌, ◌*◌, ◌/◌, ◌≤◌, ◌<◌, min, List, length, Option, Some, None, ap, sym, ◌∙◌, arith}
 use Rattle.std.proofs.lemmas.Nat.{div_below}
 use Rattle.std.proofs.Math.Nat.{mul-add-div_right, div-eq_of_lt}
-use Rattle.ac_riff.specs.declared.fault.WavKind.TheVariants.{Short, NotRiff, NoFmt, NoData, BadFmt, Unsupported, NotYet}
+use Rattle.ac_riff.specs.declared.fault.WavKind.TheVariants.{Short, NotRiff, NoFmt, NoData, BadFmt, Unsupported}
 use Rattle.ac_riff.specs.declared.fault.WavFault.{WavFault}
 use Rattle.ac_riff.specs.declared.fault.WavFault.TheVariants.{Bad, ReadFault, TooLong}
 use Rattle.ac_riff.specs.declared.head.WavHead.{WavHead}
@@ -50,7 +50,6 @@ frames_taken bytes head before limit n (Bad NoFmt place) left h e within there u
 frames_taken bytes head before limit n (Bad NoData place) left h e within there u s = absurd u
 frames_taken bytes head before limit n (Bad (BadFmt field) place) left h e within there u s = absurd u
 frames_taken bytes head before limit n (Bad (Unsupported field value) place) left h e within there u s = absurd u
-frames_taken bytes head before limit n (Bad NotYet place) left h e within there u s = absurd u
 frames_taken bytes head before limit n ReadFault left h e within there u s = stands_frames bytes head before limit n left h e s
 frames_taken bytes head before limit n TooLong left h e within there u s =
     at_frames bytes head limit (limit + 1) n left s (frames_at head before limit (limit + 1) n h e (omega (arith, within)) (omega (arith, u.1)))

@@ -4,7 +4,7 @@ use Rattle.std.specs.Prelude.{ℤ}
 use Rattle.std.proofs.lemmas.Bool.{cases_lt}
 use Rattle.std.proofs.lemmas.List.{take_all}
 use Rattle.ac_riff.specs.declared.fault.WavKind.{WavKind}
-use Rattle.ac_riff.specs.declared.fault.WavKind.TheVariants.{Short, NotRiff, NoFmt, NoData, BadFmt, Unsupported, NotYet}
+use Rattle.ac_riff.specs.declared.fault.WavKind.TheVariants.{Short, NotRiff, NoFmt, NoData, BadFmt, Unsupported}
 use Rattle.ac_riff.specs.declared.fault.WavFault.TheVariants.{Bad, TooLong}
 use Rattle.ac_riff.specs.declared.head.WavHead.{WavHead}
 use Rattle.ac_riff.specs.Form.{IsHead}
@@ -197,7 +197,6 @@ unsampled_refused bytes head before limit NoFmt place h u = absurd u
 unsampled_refused bytes head before limit NoData place h u = absurd u
 unsampled_refused bytes head before limit (BadFmt field) place h u = absurd u
 unsampled_refused bytes head before limit (Unsupported field value) place h u = absurd u
-unsampled_refused bytes head before limit NotYet place h u = absurd u
 
 sized_needs : (bytes : List ℕ) (head : WavHead) (before limit : ℕ) (size : Option ℕ) → head.size ≡ size → IsHead (take limit bytes) head → before ≤ limit → limit < length bytes
     → limit < before + frame_bytes head before → NeedsMore bytes limit

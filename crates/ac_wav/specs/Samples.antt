@@ -2,7 +2,7 @@
 -- 24 bits, by coded channels, LFE last. Those of 16 bits are multiplied by 256, which is this project's own.
 use Rattle.std.specs.Prelude.{◌≡◌, ℕ, ◌+◌, ◌-◌, ◌*◌, ◌/◌, ◌^◌, ◌<◌, ◌≤◌, min, ◌==◌, ◌&&◌, nat_lt, if◌then◌else◌, List, [], length, drop, take, slice_index, slice_index_or, Option, Some, None, Result, Err, ℤ, pos, ◌*ℤ◌, unsigned_abs}
 use Rattle.byteorder.specs.Endian.{little_number, twos_complement}
-use Rattle.ac_riff.specs.declared.fault.WavKind.TheVariants.{Short, NotRiff, NoFmt, NoData, BadFmt, Unsupported, NotYet}
+use Rattle.ac_riff.specs.declared.fault.WavKind.TheVariants.{Short, NotRiff, NoFmt, NoData, BadFmt, Unsupported}
 use Rattle.ac_riff.specs.declared.fault.WavFault.{WavFault}
 use Rattle.ac_riff.specs.declared.fault.WavFault.TheVariants.{Bad, ReadFault, TooLong}
 use Rattle.ac_riff.specs.declared.head.WavHead.{WavHead}
@@ -91,7 +91,6 @@ IsUnsampled bytes head before limit (Bad NoFmt place) = ⊥
 IsUnsampled bytes head before limit (Bad NoData place) = ⊥
 IsUnsampled bytes head before limit (Bad (BadFmt field) place) = ⊥
 IsUnsampled bytes head before limit (Bad (Unsupported field value) place) = ⊥
-IsUnsampled bytes head before limit (Bad NotYet place) = ⊥
 IsUnsampled bytes head before limit ReadFault = Unit {0}
 IsUnsampled bytes head before limit TooLong = (limit < length bytes) × (limit < before + frame_bytes head before)
 
