@@ -1,11 +1,11 @@
 //! Values that are there in some blocks only, one alone or by channel and by band.
 ghost use Rattle.std.specs.Prelude.{◌≡◌, ℕ, ◌&&◌, nat_lt, nat_le};
-ghost use Rattle.ac_joint.specs.declared.Coordinate.{Coordinate};
+ghost use Rattle.ac_coordinates.specs.declared.Coordinate.{Coordinate};
 ghost use Rattle.ac_rows.specs.Filled.{listed};
 ghost use Rattle.ac_sent.specs.Fields.{when};
 ghost use Rattle.std.specs.Prelude.{slice_index_or};
 
-use ac_joint::Coordinate;
+use ac_coordinates::Coordinate;
 use ac_rows::both;
 
 /// Whether a place is below an end.

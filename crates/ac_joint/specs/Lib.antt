@@ -1,1 +1,1 @@
-pub mod Factor
+pub mod Joint

@@ -1,59 +1,82 @@
-//! Coupling: the coordinates by which the coupled channels come back from the coupling channel.
+//! Joint coding: coupling and rematrixing.
 #![tactic(auto)]
 
-ghost use Rattle.std.specs.Prelude.{◌≡◌, ◌≤◌};
-ghost use Rattle.ac_joint.specs.Factor.{factor_of};
+ghost use Rattle.std.specs.Prelude.{◌≡◌, ◌<◌, ◌≤◌, ◌^◌, ℕ, [], length, slice_index_or, unsigned_abs};
+ghost use Rattle.ac_base.specs.Spans.{IsIn};
+ghost use Rattle.ac_expo.specs.Raw.{AreSmall, channel_span, channels};
+ghost use Rattle.ac_energy.specs.Coefficients.{entry};
+ghost use Rattle.ac_coupling.specs.Coupling.{AreCoordinates};
+ghost use Rattle.ac_rematrix.specs.Rematrix.{AreSmallPair, flags_of, rematrixed_of};
+ghost use Rattle.ac_joint.specs.Joint.{AreSmallAll, IsShared, joint_flags, joint_of};
 
-/// A coupling coordinate: the exponent and the mantissa of the factor of a channel in a band (A/52 5.4.3.16, 5.4.3.17).
+use ac_base::{Coefs, Shape};
+pub use ac_coordinates::{Coordinate, Coordinates};
+pub use ac_coupling::{coordinate, couple, couples};
+pub use ac_rematrix::rematrix;
+
+/// The flags of the rematrixing bands and the coupling coordinates of a frame.
 #[derive(Clone, Copy, Debug, PartialEq, Eq)]
-pub struct Coordinate {
-    /// cplcoexp, 4 bits.
-    pub exp: u8,
-    /// cplcomant, 4 bits.
-    pub mant: u8,
+pub struct Joint {
+    /// rematflg by band (A/52 5.4.3.20).
+    pub remat: [bool; 4],
+    /// Those of the coupled channels by band (A/52 5.4.3.16, 5.4.3.17).
+    pub coords: Coordinates,
 }
 
-/// The coordinates of a frame: for each full channel, those of each band.
-#[derive(Clone, Copy, Debug, PartialEq, Eq)]
-pub struct Coordinates {
-    /// By channel and band. Entries that stand for no channel or band say nothing.
-    pub of: [[Coordinate; 18]; 5],
-}
-
-/// The factor of a coordinate with mstrcplco 0, in units of 2^-19 (A/52 7.4.3). Both fields have 4 bits.
-pub fn factor(x: Coordinate) -> u32
-    requires exp { x.exp ≤ 15 }
-    requires mant { x.mant ≤ 15 }
-    ensures value { result ≡ factor_of x.exp x.mant }
+/// The coordinates of no coupling.
+fn no_coordinates() -> Coordinates
+    ensures long { length result.of ≡ 5 }
+    ensures rows { (c : ℕ) → c < 5 → length (slice_index_or result.of c []) ≡ 18 }
+    ensures value { (c band : ℕ) → c < 5 → band < 18
+        → slice_index_or (slice_index_or result.of c []) band (record { exp = 0; mant = 0 }) ≡ record { exp = 0; mant = 0 } }
 {
-    if x.exp == 15 {
-        u32::from(x.mant)
-    } else {
-        (u32::from(x.mant) + 16) << (14 - x.exp)
+    Coordinates {
+        of: [[Coordinate { exp: 0, mant: 0 }; 18]; 5],
     }
+}
+
+/// Couples the channels where the shape says so.
+fn couple_where(coefs: &mut Coefs, shape: &Shape) -> Coordinates
+    requires small { AreSmallAll shape.now (entry coefs.old.c) }
+    ensures coordinates { AreCoordinates shape.now (entry coefs.old.c) result }
+    ensures shared { IsShared shape.now coefs.old.c coefs.new.c }
+{
+    if shape.couple.is_some() {
+        couple(coefs, shape)
+    } else {
+        no_coordinates()
+    }
+}
+
+/// Rematrixes two channels.
+fn rematrix_where(coefs: &mut Coefs, shape: &Shape) -> [bool; 4]
+    requires small { shape.now.acmod ≡ 2 → AreSmallPair shape.now (entry coefs.old.c) }
+    ensures flags { result ≡ flags_of shape.now (entry coefs.old.c) }
+    ensures pair { (c b k : ℕ) → c < 2 → b < 6 → k < 256
+        → entry coefs.new.c c b k ≡ rematrixed_of shape.now (flags_of shape.now (entry coefs.old.c)) (entry coefs.old.c) c b k }
+    ensures others { (c : ℕ) → 2 ≤ c → slice_index_or coefs.new.c c [] ≡ slice_index_or coefs.old.c c [] }
+{
+    if shape.acmod == 2 {
+        rematrix(coefs, shape)
+    } else {
+        [false; 4]
+    }
+}
+
+/// Codes the channels of a frame jointly, as its shape says. The coefficients stand by channel in coding order, LFE last, and then by
+/// coded channel.
+pub fn join(coefs: &mut Coefs, shape: &Shape) -> Joint
+    requires small { AreSmallAll shape.now (entry coefs.old.c) }
+    ensures flags { result.remat ≡ joint_flags shape.now (entry coefs.old.c) }
+    ensures coordinates { AreCoordinates shape.now (entry coefs.old.c) result.coords }
+    ensures joint { (c b k : ℕ) → c < channels shape.now → b < 6 → IsIn (channel_span shape.now c) k
+        → entry coefs.new.c c b k ≡ joint_of shape.now (entry coefs.old.c) c b k }
+    ensures small { AreSmall shape.now coefs.new.c }
+{
+    let coords = couple_where(coefs, shape);
+    let remat = rematrix_where(coefs, shape);
+    Joint { remat, coords }
 }
 
 #[cfg(test)]
-mod tests {
-    use super::*;
-
-    /// A/52 7.4.3, by hand: (16 + mant) / 32 of 2^-exp, and mant / 16 of 2^-15, in units of 2^-19.
-    #[test]
-    fn factors_by_exponent_and_mantissa(rt: HostRuntime) {
-        let table = [
-            (0, 0, 262144),
-            (0, 15, 507904),
-            (1, 8, 196608),
-            (13, 3, 38),
-            (14, 0, 16),
-            (14, 15, 31),
-            (15, 0, 0),
-            (15, 15, 15),
-        ];
-        for (exp, mant, units) in table {
-            if exp <= 15 && mant <= 15 {
-                assert_eq!(rt; factor(Coordinate { exp, mant }), units);
-            }
-        }
-    }
-}
+mod tests;

@@ -12,7 +12,7 @@ use Rattle.ac_base.specs.declared.sizes.Parts.{Parts}
 use Rattle.ac_expo.specs.Groups.{spelled_of}
 use Rattle.ac_expo.specs.Raw.{channel_span}
 use Rattle.ac_expo.specs.Spelling.{Spelling}
-use Rattle.ac_joint.specs.declared.Coordinate.{Coordinate}
+use Rattle.ac_coordinates.specs.declared.Coordinate.{Coordinate}
 use Rattle.ac_rows.specs.Blocks.{Block}
 use Rattle.ac_rows.specs.declared.head.Head.{Head}
 use Rattle.ac_rows.specs.Filled.{listed}

@@ -2,8 +2,8 @@
 ghost use Rattle.std.specs.Prelude.{◌≡◌};
 
 use ac_base::Shape;
+use ac_coordinates::Coordinates;
 use ac_expo::Assign;
-use ac_joint::Coordinates;
 use std::alloc::AllocError;
 
 /// The values of a frame: everything that its fields and mantissas say, but for its padding and its CRC words.
