@@ -12,7 +12,7 @@ use Rattle.ac_expo.specs.Greatest.{bin_least, step_least, raw_least, step_expone
 use Rattle.ac_expo.specs.Least.{spread}
 use Rattle.ac_expo.specs.Raw.{channel_span, channels, raw_of}
 use Rattle.ac_expo.specs.Steps.{step_of, last_step}
-use Rattle.ac_joint.specs.declared.Coordinates.{Coordinates}
+use Rattle.ac_coordinates.specs.declared.Coordinates.{Coordinates}
 use Rattle.ac_mant.specs.Quantiser.{code_of}
 use Rattle.ac_rows.specs.Filled.{listed}
 use Rattle.ac_record.specs.Readings.{cell}
@@ -20,7 +20,8 @@ use Rattle.ac_cost.proofs.Exponents.{span_of_shape}
 use Rattle.ac_sent.proofs.Listed.{length-listed}
 use Rattle.ac_coding.specs.Laws.{FrameIsBySpans, FrameIsByCoefficients, Agree}
 use Rattle.ac_coding.specs.Rows.{code_by}
-use Rattle.ac_coding.specs.Values.{Coefficients, raw_rows, run_at, exponent_at, exponents, pointer_by, codes, values_of}
+use Rattle.ac_energy.specs.Coefficients.{Coefficients}
+use Rattle.ac_coding.specs.Values.{raw_rows, run_at, exponent_at, exponents, pointer_by, codes, values_of}
 use Rattle.ac_sent.specs.Packed.{IsPacked}
 use Rattle.ac_coding.proofs.Entries.{spans_same}
 use Rattle.ac_coding.proofs.GreatestRows.{raw_entry}
@@ -81,7 +82,7 @@ codes_same shape x y exps t same =
     spans_same shape (code_by shape x exps t) (code_by shape y exps t)
     (λ c b k lt in_frame inside. ap (λ z. code_of z (cell exps c b k) (pointer_by shape exps t c b k)) (same c b k lt in_frame inside))
 
-values_same : (shape : Shape) (x y : Coefficients) (t : ℕ) (assign : Assign) (remat : List Bool) (coords : Coordinates) → Agree shape x y → values_of shape x t assign remat coords ≡ values_of shape y t assign remat coords
+pub values_same : (shape : Shape) (x y : Coefficients) (t : ℕ) (assign : Assign) (remat : List Bool) (coords : Coordinates) → Agree shape x y → values_of shape x t assign remat coords ≡ values_of shape y t assign remat coords
 unfolding values_of
 values_same shape x y t assign remat coords same =
     let e = exponents_same shape x y assign.w same in

@@ -23,7 +23,8 @@ use Rattle.ac_cost.proofs.Exponents.{span_of_shape, run_exps_are}
 use Rattle.ac_sent.proofs.Listed.{entry_at}
 use Rattle.ac_coding.specs.Asked.{AreRawOf}
 use Rattle.ac_coding.specs.Rows.{exponent_by, AreHeld}
-use Rattle.ac_coding.specs.Values.{Coefficients, row_at, in_spans, raw_rows, run_at, exponent_at, exponents, pointer_by}
+use Rattle.ac_energy.specs.Coefficients.{Coefficients}
+use Rattle.ac_coding.specs.Values.{row_at, in_spans, raw_rows, run_at, exponent_at, exponents, pointer_by}
 use Rattle.ac_coding.proofs.CodesOfPointers.{below_fits}
 use Rattle.ac_coding.proofs.Entries.{row_entry, row_of_spans, cell_of_spans, spans_same}
 use Rattle.ac_coding.proofs.RunsOfBlocks.{run_is, run_has, run_kept}

@@ -2,11 +2,12 @@
 use Rattle.std.proofs.Common.{◌≡◌, ℕ, ◌*◌, Bool, List, refl, ap, ◌∙◌}
 use Rattle.ac_base.specs.declared.shapes.Shape.{Shape}
 use Rattle.ac_expo.specs.declared.word.Assign.{Assign}
-use Rattle.ac_joint.specs.declared.Coordinates.{Coordinates}
+use Rattle.ac_coordinates.specs.declared.Coordinates.{Coordinates}
 use Rattle.ac_sent.proofs.Back.{gives_back}
 use Rattle.ac_packing.proofs.Unique.{frame_size}
 use Rattle.ac_coding.specs.Laws.{OneFrameOfCoefficients, ReadingGivesCoefficients, FrameHasSize}
-use Rattle.ac_coding.specs.Values.{Coefficients, values_of}
+use Rattle.ac_energy.specs.Coefficients.{Coefficients}
+use Rattle.ac_coding.specs.Values.{values_of}
 use Rattle.ac_coding.proofs.OneOfValues.{one_of_values}
 use Rattle.ac_coding.proofs.Values.{are_quantised}
 

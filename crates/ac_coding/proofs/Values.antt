@@ -10,7 +10,7 @@ use Rattle.ac_alloc.specs.Codes.{encoder_params}
 use Rattle.ac_expo.specs.declared.word.Assign.{Assign}
 use Rattle.ac_expo.specs.Greatest.{IsSpellable}
 use Rattle.ac_expo.specs.Raw.{channel_span, channels, AreRaw, AreSmall}
-use Rattle.ac_joint.specs.declared.Coordinates.{Coordinates}
+use Rattle.ac_coordinates.specs.declared.Coordinates.{Coordinates}
 use Rattle.ac_mant.specs.Quantiser.{IsCode}
 use Rattle.ac_record.specs.Readings.{cell}
 use Rattle.ac_cost.specs.Parts.{FitsAt}
@@ -22,7 +22,8 @@ use Rattle.ac_sent.specs.Values.{Quantised}
 use Rattle.ac_coding.specs.Asked.{AreRawOf, IsAsked}
 use Rattle.ac_coding.specs.Laws.{ValuesAreQuantised}
 use Rattle.ac_coding.specs.Rows.{code_by, exponent_by}
-use Rattle.ac_coding.specs.Values.{Coefficients, entry, in_spans, run_at, exponent_at, exponents, pointer_by, codes, values_of}
+use Rattle.ac_energy.specs.Coefficients.{Coefficients, entry}
+use Rattle.ac_coding.specs.Values.{in_spans, run_at, exponent_at, exponents, pointer_by, codes, values_of}
 use Rattle.ac_coding.proofs.CodesOfPointers.{pointer_small, code_is}
 use Rattle.ac_coding.proofs.Entries.{cell_of_spans}
 use Rattle.ac_coding.proofs.GreatestRows.{exponents_are, exponents_row, exponents_cell, row_greatest, coded_below, rows_kept, pointers_are}

@@ -18,7 +18,8 @@ use Rattle.ac_mant.specs.Quantiser.{code_of}
 use Rattle.ac_record.specs.Readings.{cell}
 use Rattle.ac_cost.specs.Runs.{IsAssignmentOf}
 use Rattle.ac_coding.specs.Rows.{row_in, exponent_by, code_by, ArePointersIn, IsPut}
-use Rattle.ac_coding.specs.Values.{entry, row_at, run_at}
+use Rattle.ac_energy.specs.Coefficients.{entry}
+use Rattle.ac_coding.specs.Values.{row_at, run_at}
 use Rattle.ac_coding.proofs.CodesOfPointers.{pointer_small}
 use Rattle.ac_coding.proofs.Entries.{row_here, row_same, row_listed}
 use Rattle.ac_coding.proofs.GreatestRows.{run_row_kept}

@@ -7,11 +7,11 @@ use Rattle.ac_expo.specs.declared.word.Assign.{Assign}
 use Rattle.ac_expo.specs.Raw.{channel_span, channels, raw_of}
 use Rattle.ac_cost.specs.Runs.{IsAssignmentOf}
 use Rattle.ac_cost.specs.Parts.{FitsAt}
-use Rattle.ac_joint.specs.declared.Coordinate.{Coordinate}
-use Rattle.ac_joint.specs.declared.Coordinates.{Coordinates}
+use Rattle.ac_coordinates.specs.declared.Coordinate.{Coordinate}
+use Rattle.ac_coordinates.specs.declared.Coordinates.{Coordinates}
 use Rattle.ac_record.specs.Readings.{cell}
 use Rattle.ac_sent.specs.Asked.{IsSizeCode}
-use Rattle.ac_coding.specs.Values.{Coefficients}
+use Rattle.ac_energy.specs.Coefficients.{Coefficients}
 
 -- a list has the raw exponents of coefficients at the bins of the spans (A/52 8.2.7)
 abbrev pub AreRawOf : Shape → Coefficients → List (List (List ℕ)) → Type 0

@@ -4,13 +4,14 @@ use Rattle.ac_base.specs.declared.shapes.Shape.{Shape}
 use Rattle.ac_base.specs.Spans.{IsIn}
 use Rattle.ac_expo.specs.declared.word.Assign.{Assign}
 use Rattle.ac_expo.specs.Raw.{channel_span, channels}
-use Rattle.ac_joint.specs.declared.Coordinates.{Coordinates}
+use Rattle.ac_coordinates.specs.declared.Coordinates.{Coordinates}
 use Rattle.ac_record.specs.Frames.{FrameCodes}
 use Rattle.ac_record.specs.Laws.{AreBytes}
 use Rattle.ac_record.specs.Readings.{IsReading}
 use Rattle.ac_sent.specs.Asked.{IsQuantised}
 use Rattle.ac_sent.specs.Laws.{IsBack}
-use Rattle.ac_coding.specs.Values.{Coefficients, values_of, IsCoded}
+use Rattle.ac_energy.specs.Coefficients.{Coefficients}
+use Rattle.ac_coding.specs.Values.{values_of, IsCoded}
 use Rattle.ac_coding.specs.Asked.{IsAsked}
 
 -- what is handed in is what a frame is asked to have

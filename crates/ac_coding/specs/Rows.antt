@@ -10,7 +10,8 @@ use Rattle.ac_mant.specs.Quantiser.{code_of}
 use Rattle.ac_rows.specs.Filled.{listed}
 use Rattle.ac_record.specs.Channels.{is_in}
 use Rattle.ac_record.specs.Readings.{cell}
-use Rattle.ac_coding.specs.Values.{Coefficients, run_at, pointer_by}
+use Rattle.ac_energy.specs.Coefficients.{Coefficients}
+use Rattle.ac_coding.specs.Values.{run_at, pointer_by}
 
 -- f at the bins of a span, and 0 elsewhere
 unfoldable pub row_in : Span → (ℕ → ℕ) → List ℕ

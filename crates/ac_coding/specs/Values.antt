@@ -13,20 +13,13 @@ use Rattle.ac_cost.specs.Runs.{run_with}
 use Rattle.ac_alloc.specs.Codes.{encoder_params}
 use Rattle.ac_alloc.specs.Pointers.{pointer}
 use Rattle.ac_mant.specs.Quantiser.{code_of}
-use Rattle.ac_joint.specs.declared.Coordinates.{Coordinates}
+use Rattle.ac_coordinates.specs.declared.Coordinates.{Coordinates}
+use Rattle.ac_energy.specs.Coefficients.{Coefficients}
 use Rattle.ac_rows.specs.Filled.{listed}
 use Rattle.ac_record.specs.Channels.{is_in}
 use Rattle.ac_record.specs.Readings.{cell}
 use Rattle.ac_sent.specs.Packed.{IsPacked}
 use Rattle.ac_sent.specs.Values.{Quantised}
-
--- the coefficients of a frame
-abbrev pub Coefficients : Type 0
-Coefficients = ℕ → ℕ → ℕ → ℤ
-
--- those of an array by coded channel, block and bin
-abbrev pub entry : List (List (List ℤ)) → Coefficients
-entry coefs c b k = slice_index_or (slice_index_or (slice_index_or coefs c []) b []) k (pos 0)
 
 -- a row of an array by coded channel, block and bin: f at the bins of the channel's span, and 0 elsewhere
 abbrev pub row_at : Shape → (ℕ → ℕ → ℕ → ℕ) → ℕ → ℕ → List ℕ

@@ -11,7 +11,8 @@ ghost use Rattle.ac_cost.specs.Runs.{IsAssignmentOf};
 ghost use Rattle.ac_rows.specs.Filled.{listed};
 ghost use Rattle.ac_record.specs.Readings.{cell};
 ghost use Rattle.ac_coding.specs.Rows.{row_in, code_by, ArePointersIn, AreHeld};
-ghost use Rattle.ac_coding.specs.Values.{entry, row_at, in_spans};
+ghost use Rattle.ac_energy.specs.Coefficients.{entry};
+ghost use Rattle.ac_coding.specs.Values.{row_at, in_spans};
 
 use ac_alloc::{Mask, Params, baps};
 use ac_base::{Coefs, Shape, Span};

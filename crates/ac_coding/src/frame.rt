@@ -9,7 +9,8 @@ ghost use Rattle.ac_record.specs.Readings.{IsReading};
 ghost use Rattle.ac_sent.specs.Asked.{IsSizeCode, IsQuantised};
 ghost use Rattle.ac_sent.specs.Fields.{coordinate_at};
 ghost use Rattle.ac_sent.specs.Laws.{IsBack};
-ghost use Rattle.ac_coding.specs.Values.{entry, values_of, IsCoded};
+ghost use Rattle.ac_energy.specs.Coefficients.{entry};
+ghost use Rattle.ac_coding.specs.Values.{values_of, IsCoded};
 
 use crate::codes::write_codes;
 use crate::exponents::write_exponents;

@@ -5,9 +5,9 @@ use crate::{FrameCodes, FrameFault, Quantised, padding_law, plain_law, read};
 use ac_base::{Coefs, Shape};
 use ac_bits::FRAME_BYTES;
 use ac_codec::Refused;
+use ac_coordinates::{Coordinate, Coordinates};
 use ac_cost::cheapest;
 use ac_expo::{Assign, word_at};
-use ac_joint::{Coordinate, Coordinates};
 use std::process::Abort;
 
 mod drawn;

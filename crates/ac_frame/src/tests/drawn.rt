@@ -9,9 +9,9 @@ ghost use Rattle.ac_cost.specs.Parts.{FitsAt};
 use ac_base::{Coefs, Shape, Span, frame_words, rate};
 use ac_bits::FRAME_BYTES;
 use ac_coding::code_frame;
+use ac_coordinates::{Coordinate, Coordinates};
 use ac_cost::{RunLists, cheapest};
 use ac_expo::{Assign, RawExps, Word, word_at};
-use ac_joint::{Coordinate, Coordinates};
 use ac_sent::{Quantised, frame_code};
 
 // ---- what is asked of the values of a frame, each as a test

@@ -3,7 +3,8 @@ use Rattle.std.proofs.lemmas.List.{length-set}
 use Rattle.ac_packing.proofs.Rows.{row_after}
 use Rattle.ac_rows.proofs.Listed.{is_listed}
 use Rattle.ac_coding.specs.Rows.{code_by, ArePointersIn}
-use Rattle.ac_coding.specs.Values.{entry, row_at}
+use Rattle.ac_energy.specs.Coefficients.{entry}
+use Rattle.ac_coding.specs.Values.{row_at}
 use Rattle.ac_coding.proofs.Written.{pointers_small, codes_written}
 use Rattle.ac_coding.proofs.codes.write_channel.Goals as goal
 

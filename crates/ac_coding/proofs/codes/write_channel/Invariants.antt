@@ -1,6 +1,7 @@
 use Rattle.std.proofs.Common.{◌≡◌, ℕ, ◌<◌, ◌-◌, [], length, slice_index_or}
 use Rattle.ac_coding.specs.Rows.{code_by, ArePointersIn}
-use Rattle.ac_coding.specs.Values.{entry, row_at}
+use Rattle.ac_energy.specs.Coefficients.{entry}
+use Rattle.ac_coding.specs.Values.{row_at}
 use Rattle.ac_coding.proofs.codes.write_channel.Given as goal
 
 abbrev pub invariant-loop-b : goal.invariant-loop-b

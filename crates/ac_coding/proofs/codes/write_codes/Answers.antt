@@ -2,7 +2,8 @@ use Rattle.std.proofs.Common.{[], arith}
 use Rattle.ac_rows.specs.Filled.{listed}
 use Rattle.ac_rows.proofs.Listed.{is_listed}
 use Rattle.ac_coding.specs.Rows.{code_by}
-use Rattle.ac_coding.specs.Values.{entry, row_at}
+use Rattle.ac_energy.specs.Coefficients.{entry}
+use Rattle.ac_coding.specs.Values.{row_at}
 use Rattle.ac_coding.proofs.codes.write_codes.Goals as goal
 
 pub returns : goal.returns

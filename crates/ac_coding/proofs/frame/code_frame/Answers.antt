@@ -3,7 +3,7 @@ use Rattle.ac_base.specs.declared.shapes.Shape.{Shape}
 use Rattle.ac_sent.specs.Asked.{IsQuantised}
 use Rattle.ac_sent.specs.Packed.{IsPacked}
 use Rattle.ac_sent.specs.Values.{Quantised}
-use Rattle.ac_coding.specs.Values.{entry}
+use Rattle.ac_energy.specs.Coefficients.{entry}
 use Rattle.ac_coding.proofs.OneFrame.{shape_is, flags_are, coordinates_are, back}
 use Rattle.ac_coding.proofs.Values.{asked_by_rows, are_quantised}
 use Rattle.ac_coding.proofs.frame.code_frame.Goals as goal

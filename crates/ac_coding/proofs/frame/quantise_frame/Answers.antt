@@ -1,6 +1,6 @@
 use Rattle.std.proofs.Common.{◌∙◌, sym, subst}
 use Rattle.ac_coding.specs.Rows.{AreHeld}
-use Rattle.ac_coding.specs.Values.{entry}
+use Rattle.ac_energy.specs.Coefficients.{entry}
 use Rattle.ac_coding.proofs.GreatestRows.{exponents_are, are_held}
 use Rattle.ac_coding.proofs.Values.{raw_by_rows, small_by_rows, values_are}
 use Rattle.ac_coding.proofs.frame.quantise_frame.Goals as goal

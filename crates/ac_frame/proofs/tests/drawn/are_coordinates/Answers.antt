@@ -1,7 +1,7 @@
 use Rattle.std.proofs.Common.{ℕ, ◌<◌, ◌≤◌, List, [], length, slice_index_or, subst, sym, inl, inr, arith, rules}
 use Rattle.std.proofs.lemmas.Bool.{cases_lt}
 use Rattle.std.proofs.lemmas.List.{get_or_past}
-use Rattle.ac_joint.specs.declared.Coordinate.{Coordinate}
+use Rattle.ac_coordinates.specs.declared.Coordinate.{Coordinate}
 use Rattle.ac_frame.proofs.tests.drawn.are_coordinates.Goals as goal
 
 -- what holds of each row, and of a row that isn't there, holds everywhere
