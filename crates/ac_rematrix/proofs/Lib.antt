@@ -1,0 +1,4 @@
+pub mod Everywhere
+pub mod Halved
+pub mod Sums
+pub mod Walk

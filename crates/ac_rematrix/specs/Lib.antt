@@ -1,0 +1,3 @@
+pub mod Energies
+pub mod Halves
+pub mod Rematrix
