@@ -1,3 +1,3 @@
-pub mod Ones
-pub mod Passing
-pub mod Places
+pub mod Floors
+pub mod Plans
+pub mod Uniforms

@@ -44,8 +44,10 @@ pub struct Case {
     pub shift: [i32; 6],
     /// 1 where a block has its bins the other way round.
     pub flip: [u8; 6],
-    /// The root offset, and the greatest at which some assignment fits.
-    pub offsets: [u16; 2],
+    /// The root offset, the greatest at which some uniform assignment fits, and the greatest at which any does.
+    pub offsets: [u16; 3],
+    /// The nodes of the trees from the root offset down to the one above the last of these, and 0 for the rest.
+    pub sizes: [u32; 5],
 }
 
 /// What the blocks of a channel have in common: base, tilt and roughness.
@@ -134,78 +136,27 @@ pub fn shape_of(rt: &impl Abort, case: &Case) -> Shape {
     Shape::new(fscod, acmod, lfe == 1, bw, couple, case.words).expect(rt, "the shape is one")
 }
 
-/// Names of the cases of the other program: 1-01, 1-02, 1-03, 1-04, 1-05, 1-06, 1-07, 1-08.
-pub static CASES: [Case; 8] = [
-    Case {
-        fields: [2, 1, 0, 0, 255, 255],
-        words: 336,
-        seed: 2711099306,
-        numbers: [9, 2, 0, 0],
-        shift: [0, 0, 0, 0, 0, 0],
-        flip: [0, 0, 0, 0, 0, 0],
-        offsets: [512, 512],
-    },
-    Case {
-        fields: [0, 1, 0, 36, 255, 255],
-        words: 192,
-        seed: 477880472,
-        numbers: [7, 0, 5, 0],
-        shift: [-2, -1, 4, 3, -2, 4],
-        flip: [1, 1, 0, 1, 1, 1],
-        offsets: [236, 236],
-    },
-    Case {
-        fields: [1, 1, 0, 20, 255, 255],
-        words: 278,
-        seed: 4142744701,
-        numbers: [4, 2, 3, 1],
-        shift: [0, 0, 0, 0, 0, 0],
-        flip: [0, 0, 0, 0, 0, 0],
-        offsets: [296, 294],
-    },
-    Case {
-        fields: [0, 1, 0, 20, 255, 255],
-        words: 192,
-        seed: 609258735,
-        numbers: [6, 3, 2, 1],
-        shift: [-1, 0, 1, 2, 3, 4],
-        flip: [0, 0, 0, 0, 0, 0],
-        offsets: [273, 272],
-    },
-    Case {
-        fields: [0, 1, 0, 48, 255, 255],
-        words: 320,
-        seed: 3484163503,
-        numbers: [6, 5, 0, 1],
-        shift: [-1, 0, 1, 2, 3, 4],
-        flip: [0, 0, 0, 0, 0, 0],
-        offsets: [342, 339],
-    },
-    Case {
-        fields: [0, 1, 0, 7, 255, 255],
-        words: 224,
-        seed: 434709665,
-        numbers: [8, 5, 3, 1],
-        shift: [0, 0, 0, 0, 0, 0],
-        flip: [0, 0, 0, 1, 1, 1],
-        offsets: [371, 368],
-    },
-    Case {
-        fields: [0, 1, 0, 60, 255, 255],
-        words: 112,
-        seed: 4001626585,
-        numbers: [8, 7, 5, 2],
-        shift: [-1, 0, 1, 2, 3, 4],
-        flip: [0, 0, 0, 0, 0, 0],
-        offsets: [280, 276],
-    },
-    Case {
-        fields: [0, 1, 0, 7, 255, 255],
-        words: 224,
-        seed: 1106388483,
-        numbers: [8, 4, 3, 0],
-        shift: [0, -3, 0, 0, 0, 0],
-        flip: [0, 0, 1, 0, 0, 0],
-        offsets: [336, 331],
-    },
-];
+/// Draws the raw exponents of a block, from 10 to 17.
+fn draw_even(draws: &mut Draws, out: &mut [u8]) {
+    for place in out.iter_mut() {
+        *place = (10 + draws.next() % 8) as u8;
+    }
+}
+
+/// The raw exponents of five channels, of which the first two have one list in each block.
+pub fn draw_five(shape: &Shape, seed: u64) -> RawExps {
+    let silence = &SILENCE;
+    let mut raw = *silence;
+    let mut draws = Draws { x: seed };
+    for c in 0..shape.coded() {
+        let to = usize::from(shape.span(c).end).min(256);
+        for b in 0..6 {
+            if c < 2 && b > 0 {
+                raw.e[c as usize][b] = raw.e[c as usize][0];
+            } else {
+                draw_even(&mut draws, &mut raw.e[c as usize][b][..to]);
+            }
+        }
+    }
+    raw
+}

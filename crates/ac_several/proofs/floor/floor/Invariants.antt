@@ -1,9 +1,0 @@
-use Rattle.std.proofs.Common.{◌≤◌}
-use Rattle.ac_several.specs.Uniform.{NoneUniform}
-use Rattle.ac_several.proofs.floor.floor.Given as goal
-
-abbrev pub invariant-loop-t : goal.invariant-loop-t
-invariant-loop-t l = record { within : l.t ≤ l.top; none : NoneUniform l.shape l.lists.raw l.t l.top }
-
-abbrev pub decreases-loop-t : goal.decreases-loop-t
-decreases-loop-t l = l.t

@@ -1,0 +1,3 @@
+pub mod Ones
+pub mod Passing
+pub mod Places

@@ -1,0 +1,20 @@
+use Rattle.std.proofs.Common.{◌<◌, ◌≤◌, ◌^◌, ℕ, List, [], length, length-set, slice_index, refl, ◌∙◌, arith}
+use Rattle.ac_cost.proofs.Listing.{set_each, set_more}
+use Rattle.ac_single.specs.Costs.{HasCost}
+use Rattle.ac_single.proofs.Places.{row_zero}
+use Rattle.ac_single.proofs.words.costs.Goals as goal
+
+pub loop-place-init : goal.loop-place-init
+loop-place-init c = record { value = λ place l. absurd (omega arith); small = row_zero; long = refl }
+
+pub loop-place-preserved : goal.loop-place-preserved
+loop-place-preserved c =
+    let i = c.loop-place in
+    let P : ℕ → List ℕ → Type 0 = HasCost c.args.table.now in
+    let Q : ℕ → List ℕ → Type 0 = λ place row. (part : ℕ) → slice_index row part ≤ 2 ^ 19 in
+    let inside : i.place < length i.costs = omega (arith, i.invariant.long, c.loop-place-test.true) in
+    record {
+      value = set_more P i.costs i.place c.cost.result [] inside i.invariant.value c.cost.ensures.value;
+      small = set_each Q i.costs i.place c.cost.result [] inside (λ j ne. i.invariant.small j) c.cost.ensures.small;
+      long = length-set i.costs i.place c.cost.result ∙ i.invariant.long;
+    }
