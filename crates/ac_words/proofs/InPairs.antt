@@ -4,8 +4,9 @@ use Rattle.std.specs.Str.{bytes_eq}
 use Rattle.std.specs.List.{list_any}
 use Rattle.std.specs.Prelude.{find, option_map}
 use Rattle.std.proofs.lemmas.Slice.Eq.{bytes_eq-Decides}
-use Rattle.ac_words.specs.Grammar.{Pair, Text, IsNumber, all_known, encode_known, has_name, none_twice, spelled, value_in}
+use Rattle.ac_words.specs.Grammar.{Pair, Text, IsCouple, IsNumber, all_known, encode_known, has_name, none_twice, spelled, value_in}
 use Rattle.ac_words.specs.Found.{Finds, IsRateText, Joins}
+use Rattle.ac_words.specs.declared.meaning.Couple.{Couple}
 use Rattle.ac_words.specs.declared.pairs.Found.{Found}
 use Rattle.ac_words.proofs.RateTexts.{both}
 
@@ -72,7 +73,7 @@ none_has name (p ∷ ps) e = value_first name p ps ∙ go (bytes_eq p.0 name) e 
 
 -- ---- what is found of one option, by the first pair and by those after it
 
-module _ (Is : Text → ℕ → Type 0) (a b c : Option ℕ) where
+module _ {A : Type 0} (Is : Text → A → Type 0) (a b c : Option A) where
   then_joins : (t : Bool) (v : Text) (w : Option Text) → Joins Is a (cond t (Some v) None) b → Joins Is b w c → Joins Is a (cond t (Some v) w) c
   then_joins true v None h k = (h.0, (h.1.0, k ∙ h.1.1, h.1.2))
   then_joins true v (Some x) h k = let before = k.0 in let after = h.1.1 in absurd (cc (before, after))
@@ -95,12 +96,13 @@ module _ (Is : Text → ℕ → Type 0) (a b c : Option ℕ) where
       subst (λ (x : Text). has_name x ps ≡ false) (sym is) (has_none name ps none)
 
 -- what the first pair leaves
-record Between (Is : Text → ℕ → Type 0) (a c : Option ℕ) (first rest : Option Text) : Type 0 where
-  found : Option ℕ
+record Between {A : Type 0} (Is : Text → A → Type 0) (a c : Option A) (first rest : Option Text) : Type 0 where
+  found : Option A
   before : Joins Is a first found
   after : Joins Is found rest c
 
-joins_split : (Is : Text → ℕ → Type 0) (a c : Option ℕ) (name : Text) (p : Pair) (ps : List Pair) → has_name p.0 ps ≡ false → Joins Is a (value_in name (p ∷ ps)) c
+joins_split : {A : Type 0} (Is : Text → A → Type 0) (a c : Option A) (name : Text) (p : Pair) (ps : List Pair)
+    → has_name p.0 ps ≡ false → Joins Is a (value_in name (p ∷ ps)) c
     → Between Is a c (value_in name (p ∷ [])) (value_in name ps)
 joins_split Is a c name p ps other h =
     subst (λ (x : Option Text). Between Is a c x (value_in name ps)) (sym (value_first name p []))
@@ -121,14 +123,16 @@ pub record FindsOne (f : Found) (option value : Text) (m : Found) : Type 0 where
   pub rate : Joins IsRateText f.rate (value_in (codes "rate") (pair ∷ [])) m.rate
   pub nodes : Joins (IsNumber 10000000) f.nodes (value_in (codes "nodes") (pair ∷ [])) m.nodes
   pub bw : Joins (IsNumber 60) f.bw (value_in (codes "bw") (pair ∷ [])) m.bw
+  pub couple : Joins IsCouple f.couple (value_in (codes "couple") (pair ∷ [])) m.couple
 
 pub one_of : (f : Found) (o v : Text) (m : Found) → Finds f (o ∷ v ∷ []) m → FindsOne f o v m
-one_of f o v m h = go h.pairs h.words h.known h.rate h.nodes h.bw
+one_of f o v m h = go h.pairs h.words h.known h.rate h.nodes h.bw h.couple
   where
     go : (ps : List Pair) → o ∷ v ∷ [] ≡ spelled ps → all_known encode_known ps ≡ true → Joins IsRateText f.rate (value_in (codes "rate") ps) m.rate
-        → Joins (IsNumber 10000000) f.nodes (value_in (codes "nodes") ps) m.nodes → Joins (IsNumber 60) f.bw (value_in (codes "bw") ps) m.bw → FindsOne f o v m
-    go [] e known rate nodes bw = absurd (cc)
-    go (p ∷ []) e known rate nodes bw = record {
+        → Joins (IsNumber 10000000) f.nodes (value_in (codes "nodes") ps) m.nodes → Joins (IsNumber 60) f.bw (value_in (codes "bw") ps) m.bw
+        → Joins IsCouple f.couple (value_in (codes "couple") ps) m.couple → FindsOne f o v m
+    go [] e known rate nodes bw couple = absurd (cc)
+    go (p ∷ []) e known rate nodes bw couple = record {
       pair = p;
       option_is = cc;
       value_is = cc;
@@ -136,20 +140,26 @@ one_of f o v m h = go h.pairs h.words h.known h.rate h.nodes h.bw
       rate = rate;
       nodes = nodes;
       bw = bw;
+      couple = couple;
     }
-    go (p ∷ q ∷ rest) e known rate nodes bw = absurd (cc)
+    go (p ∷ q ∷ rest) e known rate nodes bw couple = absurd (cc)
 
-pub known_name : (name : Text) → list_any (λ k. bytes_eq name k) encode_known ≡ true → (name ≡ codes "rate") ⊎ ((name ≡ codes "nodes") ⊎ (name ≡ codes "bw"))
+pub known_name : (name : Text) → list_any (λ k. bytes_eq name k) encode_known ≡ true
+    → (name ≡ codes "rate") ⊎ ((name ≡ codes "nodes") ⊎ ((name ≡ codes "bw") ⊎ (name ≡ codes "couple")))
 known_name name e =
     elim (one_of_two (bytes_eq name (codes "rate")) _ e) [
       | inl a ↦ inl (same_text name (codes "rate") a)
       | inr more ↦ inr (
           elim (one_of_two (bytes_eq name (codes "nodes")) _ more) [
             | inl a ↦ inl (same_text name (codes "nodes") a)
-            | inr last ↦ elim (one_of_two (bytes_eq name (codes "bw")) false last) [
-              | inl a ↦ inr (same_text name (codes "bw") a)
-              | inr never ↦ absurd (true≢false (sym never))
-            ]
+            | inr further ↦ inr (
+                elim (one_of_two (bytes_eq name (codes "bw")) _ further) [
+                  | inl a ↦ inl (same_text name (codes "bw") a)
+                  | inr last ↦ elim (one_of_two (bytes_eq name (codes "couple")) false last) [
+                    | inl a ↦ inr (same_text name (codes "couple") a)
+                    | inr never ↦ absurd (true≢false (sym never))
+                  ]
+                ])
           ])
     ]
 
@@ -161,7 +171,10 @@ module _ (f m g : Found) (o v : Text) (ws : List Text) where
         | inl is ↦ apart_in IsRateText f.rate m.rate g.rate (codes "rate") a.pair k.pairs is a.rate k.rate
         | inr other ↦ elim other [
           | inl is ↦ apart_in (IsNumber 10000000) f.nodes m.nodes g.nodes (codes "nodes") a.pair k.pairs is a.nodes k.nodes
-          | inr is ↦ apart_in (IsNumber 60) f.bw m.bw g.bw (codes "bw") a.pair k.pairs is a.bw k.bw
+          | inr further ↦ elim further [
+            | inl is ↦ apart_in (IsNumber 60) f.bw m.bw g.bw (codes "bw") a.pair k.pairs is a.bw k.bw
+            | inr is ↦ apart_in IsCouple f.couple m.couple g.couple (codes "couple") a.pair k.pairs is a.couple k.couple
+          ]
         ]
       ]
 
@@ -177,6 +190,7 @@ module _ (f m g : Found) (o v : Text) (ws : List Text) where
         rate = joins_then IsRateText f.rate m.rate g.rate (codes "rate") a.pair k.pairs a.rate k.rate;
         nodes = joins_then (IsNumber 10000000) f.nodes m.nodes g.nodes (codes "nodes") a.pair k.pairs a.nodes k.nodes;
         bw = joins_then (IsNumber 60) f.bw m.bw g.bw (codes "bw") a.pair k.pairs a.bw k.bw;
+        couple = joins_then IsCouple f.couple m.couple g.couple (codes "couple") a.pair k.pairs a.couple k.couple;
       }
 
 -- ---- the first pair of several
@@ -186,24 +200,44 @@ pub record FirstPair (f g : Found) (o v : Text) (ws : List Text) : Type 0 where
   pub first : Finds f (o ∷ v ∷ []) between
   pub rest : Finds between ws g
 
-abbrev pub found_of : Option ℕ → Option ℕ → Option ℕ → Found
-found_of rate nodes bw = record { rate = rate; nodes = nodes; bw = bw }
+abbrev pub found_of : Option ℕ → Option ℕ → Option ℕ → Option Couple → Found
+found_of rate nodes bw couple = record { rate = rate; nodes = nodes; bw = bw; couple = couple }
 
 pub first_pair : (f g : Found) (o v : Text) (ws : List Text) → Finds f (o ∷ v ∷ ws) g → FirstPair f g o v ws
-first_pair f g o v ws h = go h.pairs h.words h.known h.once h.rate h.nodes h.bw
+first_pair f g o v ws h = go h.pairs h.words h.known h.once h.rate h.nodes h.bw h.couple
   where
     go : (ps : List Pair) → o ∷ v ∷ ws ≡ spelled ps → all_known encode_known ps ≡ true → none_twice ps ≡ true → Joins IsRateText f.rate (value_in (codes "rate") ps) g.rate
-        → Joins (IsNumber 10000000) f.nodes (value_in (codes "nodes") ps) g.nodes → Joins (IsNumber 60) f.bw (value_in (codes "bw") ps) g.bw → FirstPair f g o v ws
-    go [] e known once rate nodes bw = absurd (cc)
-    go (p ∷ ps) e known once rate nodes bw =
+        → Joins (IsNumber 10000000) f.nodes (value_in (codes "nodes") ps) g.nodes → Joins (IsNumber 60) f.bw (value_in (codes "bw") ps) g.bw
+        → Joins IsCouple f.couple (value_in (codes "couple") ps) g.couple → FirstPair f g o v ws
+    go [] e known once rate nodes bw couple = absurd (cc)
+    go (p ∷ ps) e known once rate nodes bw couple =
         let names = both _ _ known in
         let times = both _ _ once in
         let other : has_name p.0 ps ≡ false = not_true _ times.0 in
         let r = joins_split IsRateText f.rate g.rate (codes "rate") p ps other rate in
         let n = joins_split (IsNumber 10000000) f.nodes g.nodes (codes "nodes") p ps other nodes in
         let b = joins_split (IsNumber 60) f.bw g.bw (codes "bw") p ps other bw in
+        let c = joins_split IsCouple f.couple g.couple (codes "couple") p ps other couple in
         record {
-          between = found_of r.found n.found b.found;
-          first = record { pairs = p ∷ []; words = cc; known = and_true _ true names.0 refl; once = refl; rate = r.before; nodes = n.before; bw = b.before };
-          rest = record { pairs = ps; words = cc; known = names.1; once = times.1; rate = r.after; nodes = n.after; bw = b.after };
+          between = found_of r.found n.found b.found c.found;
+          first = record {
+            pairs = p ∷ [];
+            words = cc;
+            known = and_true _ true names.0 refl;
+            once = refl;
+            rate = r.before;
+            nodes = n.before;
+            bw = b.before;
+            couple = c.before;
+          };
+          rest = record {
+            pairs = ps;
+            words = cc;
+            known = names.1;
+            once = times.1;
+            rate = r.after;
+            nodes = n.after;
+            bw = b.after;
+            couple = c.after;
+          };
         }

@@ -1,5 +1,6 @@
 pub mod Numbers
 pub mod RateTexts
+pub mod CoupleTexts
 pub mod InPairs
 pub mod EachOption
 pub mod Said

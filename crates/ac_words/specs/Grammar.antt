@@ -3,11 +3,12 @@
 -- All of it is this project's own but the rates, which are those of A/52 Table 5.18.
 use Rattle.std.specs.Fmt.{decimal}
 use Rattle.std.specs.List.{list_all, list_any}
-use Rattle.std.specs.Prelude.{◌≡◌, ◌≤◌, ℕ, Bool, not, true, nat_lt, ◌||◌, ◌&&◌, List, [], ◌∷◌, ◌++◌, length, Option, Some, None, find, option_map, MatchOption, IsTrue, codes}
+use Rattle.std.specs.Prelude.{◌≡◌, ◌+◌, ◌≤◌, ℕ, Bool, not, true, nat_lt, ◌||◌, ◌&&◌, List, [], ◌∷◌, ◌++◌, length, Option, Some, None, find, option_map, MatchOption, IsTrue, codes}
 use Rattle.std.specs.Str.{bytes_eq}
 use Rattle.std.specs.Str.Parse.{starts_with_minus}
 use Rattle.ac_base.specs.Rates.{is_rate}
-use Rattle.ac_words.specs.declared.meaning.Couple.TheVariants.{Auto}
+use Rattle.ac_words.specs.declared.meaning.Couple.{Couple}
+use Rattle.ac_words.specs.declared.meaning.Couple.TheVariants.{Off, Auto, Bins}
 use Rattle.ac_words.specs.declared.meaning.Options.{Options}
 
 -- the bytes of a word
@@ -45,7 +46,7 @@ all_known known = list_all (λ p. list_any (λ name. bytes_eq p.0 name) known)
 -- ---- the options of encode
 
 abbrev pub encode_known : List Text
-encode_known = codes "rate" ∷ codes "nodes" ∷ codes "bw" ∷ []
+encode_known = codes "rate" ∷ codes "nodes" ∷ codes "bw" ∷ codes "couple" ∷ []
 
 -- the text is a rate of A/52 Table 5.18 in decimal digits, without a sign or a leading zero; a rate is required
 abbrev pub RateOf : Option Text → ℕ → Type 0
@@ -63,12 +64,27 @@ NodesOf value nodes = MatchOption value (nodes ≡ 20000) (λ text. IsNumber 100
 abbrev pub BandwidthOf : Option Text → Option ℕ → Type 0
 BandwidthOf value bw = MatchOption value (bw ≡ None) (λ text. (code : ℕ) × (bw ≡ Some code) × IsNumber 60 text code)
 
--- what the values say; no words give the coupling yet, which goes by the rate
-pub record Says (rate nodes bw : Option Text) (o : Options) : Type 0 where
+-- the text is these two codes in decimal digits, each without a sign or a leading zero, with a comma between them:
+-- cplbegf and cplendf (A/52 5.4.3.11, 5.4.3.12), of at most 15 each, and the first at most the second and 2
+abbrev pub AreBins : Text → ℕ → ℕ → Type 0
+AreBins text begin end = (text ≡ decimal begin ++ (codes "," ++ decimal end)) × (begin ≤ 15) × (end ≤ 15) × (begin ≤ end + 2)
+
+-- the text is `off`, `auto`, or two codes
+abbrev pub IsCouple : Text → Couple → Type 0
+IsCouple text Off = text ≡ codes "off"
+IsCouple text Auto = text ≡ codes "auto"
+IsCouple text (Bins begin end) = AreBins text begin end
+
+-- the use of coupling (A/52 7.4): by the rate where no value stands
+abbrev pub CoupleOf : Option Text → Couple → Type 0
+CoupleOf value couple = MatchOption value (couple ≡ Auto) (λ text. IsCouple text couple)
+
+-- what the values say
+pub record Says (rate nodes bw couple : Option Text) (o : Options) : Type 0 where
   pub rate_is : RateOf rate o.rate
   pub nodes_is : NodesOf nodes o.nodes
   pub bw_is : BandwidthOf bw o.bw
-  pub couple_is : o.couple ≡ Auto
+  pub couple_is : CoupleOf couple o.couple
 
 -- these words are pairs that give these options
 pub record EncodePairs (ws : List Text) (o : Options) : Type 0 where
@@ -76,7 +92,8 @@ pub record EncodePairs (ws : List Text) (o : Options) : Type 0 where
   pub words : ws ≡ spelled pairs
   pub known : all_known encode_known pairs ≡ true
   pub once : none_twice pairs ≡ true
-  pub says : Says (value_in (codes "rate") pairs) (value_in (codes "nodes") pairs) (value_in (codes "bw") pairs) o
+  pub says : Says (value_in (codes "rate") pairs) (value_in (codes "nodes") pairs) (value_in (codes "bw") pairs)
+      (value_in (codes "couple") pairs) o
 
 -- ---- the names
 

@@ -4,6 +4,7 @@
 //! exactly where the words have no meaning, and take no memory.
 #![tactic(auto)]
 
+mod coupling;
 mod fault;
 mod laws;
 mod meaning;

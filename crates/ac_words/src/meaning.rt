@@ -25,7 +25,7 @@ pub struct Options {
     pub nodes: u32,
     /// The bandwidth code chbwcod (A/52 5.4.3.24), 0 to 60, where it is given. None: by the bit rate.
     pub bw: Option<u8>,
-    /// How the channels are coupled.
+    /// How the channels are coupled: `Auto` where it isn't given.
     pub couple: Couple,
 }
 

@@ -57,7 +57,7 @@ pub(crate) fn rate_of(text: &str) -> Option<u16>
 }
 
 /// The number that the text writes, where it is at most `most`.
-fn number_to(most: u64, text: &str) -> Option<u64>
+pub(crate) fn number_to(most: u64, text: &str) -> Option<u64>
     ensures { MatchOption result
         ((n : ℕ) → ¬ IsNumber most text.now n)
         (IsNumber most text.now) }

@@ -4,6 +4,7 @@ ghost use Rattle.ac_words.specs.Found.{Finds};
 ghost use Rattle.ac_words.specs.declared.pairs.Found.{Found};
 ghost use Rattle.ac_words.specs.declared.meaning.Options.{Options};
 
+use crate::coupling::couple_of;
 use crate::meaning::{Couple, Options};
 use crate::number::{bandwidth_of, nodes_of, rate_of};
 
@@ -13,6 +14,7 @@ struct Found {
     rate: Option<u16>,
     nodes: Option<u32>,
     bw: Option<u8>,
+    couple: Option<Couple>,
 }
 
 /// With the value of `--rate`, where none was found before.
@@ -69,6 +71,24 @@ fn with_bandwidth(found: Found, value: &str) -> Option<Found>
     })
 }
 
+/// With the value of `--couple`, where none was found before.
+fn with_couple(found: Found, value: &str) -> Option<Found>
+    ensures { MatchOption result
+        ((more : Found) → ¬ Finds found (codes "--couple" ∷ value.now ∷ []) more)
+        (Finds found (codes "--couple" ∷ value.now ∷ [])) }
+{
+    if found.couple.is_some() {
+        return None;
+    }
+    let Some(couple) = couple_of(value) else {
+        return None;
+    };
+    Some(Found {
+        couple: Some(couple),
+        ..found
+    })
+}
+
 /// With an option and its value; nothing where the option is unknown or stands twice, or the value is bad.
 fn with_pair(found: Found, option: &str, value: &str) -> Option<Found>
     ensures { MatchOption result
@@ -84,10 +104,13 @@ fn with_pair(found: Found, option: &str, value: &str) -> Option<Found>
     if option == "--bw" {
         return with_bandwidth(found, value);
     }
+    if option == "--couple" {
+        return with_couple(found, value);
+    }
     None
 }
 
-/// With all pairs of the words. It calls itself three times at most, since no option is taken twice.
+/// With all pairs of the words. It calls itself four times at most, since no option is taken twice.
 fn with_pairs(found: Found, words: &[String]) -> Option<Found>
     ensures { MatchOption result
         ((more : Found) → ¬ Finds found (map string_bytes words.now) more)
@@ -115,6 +138,7 @@ pub(crate) fn encode_options(words: &[String]) -> Option<Options>
         rate: None,
         nodes: None,
         bw: None,
+        couple: None,
     };
     let Some(found) = with_pairs(nothing, words) else {
         return None;
@@ -126,6 +150,6 @@ pub(crate) fn encode_options(words: &[String]) -> Option<Options>
         rate,
         nodes: found.nodes.unwrap_or(20_000),
         bw: found.bw,
-        couple: Couple::Auto,
+        couple: found.couple.unwrap_or(Couple::Auto),
     })
 }

@@ -150,7 +150,7 @@ fn pairs_give_options(rt: HostRuntime) -> Result<(), Fail> {
 
 #[test]
 fn pairs_are_refused(rt: HostRuntime) -> Result<(), Fail> {
-    let lines: [&[&str]; 24] = [
+    let lines: [&[&str]; 23] = [
         &[],
         &["--nodes", "7"],
         &["--bw", "9", "--nodes", "7"],
@@ -173,8 +173,116 @@ fn pairs_are_refused(rt: HostRuntime) -> Result<(), Fail> {
         &["--rate", "192", "--nodes", "7", "--nodes", "7"],
         &["--bw", "3", "--rate", "192", "--bw", "4"],
         &["--rate", "192", "--nodes", "7", "--bw", "9", "--nodes", "7"],
-        &["--rate", "192", "--couple", "auto"],
         &["--rate", "192", "--Bw", "3"],
+    ];
+    for pairs in lines {
+        assert!(rt; are_refused(&rt, &line_of(&rt, pairs)?), "{pairs:?}");
+    }
+    Ok(())
+}
+
+#[test]
+fn couplings_are_read(rt: HostRuntime) -> Result<(), Fail> {
+    let values: [(&str, Couple); 12] = [
+        ("off", Couple::Off),
+        ("auto", Couple::Auto),
+        ("8,12", Couple::Bins(8, 12)),
+        ("0,0", Couple::Bins(0, 0)),
+        ("0,15", Couple::Bins(0, 15)),
+        ("2,0", Couple::Bins(2, 0)),
+        ("3,1", Couple::Bins(3, 1)),
+        ("10,8", Couple::Bins(10, 8)),
+        ("9,10", Couple::Bins(9, 10)),
+        ("15,13", Couple::Bins(15, 13)),
+        ("15,14", Couple::Bins(15, 14)),
+        ("15,15", Couple::Bins(15, 15)),
+    ];
+    for (value, couple) in values {
+        let options = Options {
+            couple,
+            ..options_of(96, 7, Some(9))
+        };
+        let first = line_of(
+            &rt,
+            &[
+                "--couple", value, "--rate", "96", "--bw", "9", "--nodes", "7",
+            ],
+        )?;
+        assert_eq!(rt;
+            command(rt.alloc(), &first),
+            Ok(Command::Encode(options)),
+            "{value}"
+        );
+        let last = line_of(
+            &rt,
+            &[
+                "--nodes", "7", "--bw", "9", "--rate", "96", "--couple", value,
+            ],
+        )?;
+        assert_eq!(rt;
+            command(rt.alloc(), &last),
+            Ok(Command::Encode(options)),
+            "{value}"
+        );
+    }
+    Ok(())
+}
+
+#[test]
+fn other_couplings_are_refused(rt: HostRuntime) -> Result<(), Fail> {
+    let mut words = line_of(&rt, &["--rate", "192", "--couple", "8,12"])?;
+    assert!(rt; command(rt.alloc(), &words).is_ok());
+    for value in [
+        "",
+        "Off",
+        "off ",
+        "on",
+        "8",
+        ",",
+        "8,",
+        ",8",
+        "8,12,",
+        "8,,12",
+        "8,12,1",
+        "8, 12",
+        " 8,12",
+        "8 ,12",
+        "8;12",
+        "08,12",
+        "8,012",
+        "00,0",
+        "+8,12",
+        "8,+12",
+        "-0,12",
+        "0x8,12",
+        "a,b",
+        "3,0",
+        "11,8",
+        "15,12",
+        "16,15",
+        "15,16",
+        "0,16",
+        "264,12",
+        "18446744073709551624,12",
+        "8\u{ff0c}12",
+        "\u{668},12",
+    ] {
+        put(&rt, &mut words, 4, value)?;
+        assert!(rt; are_refused(&rt, &words), "{value} is no coupling");
+    }
+    Ok(())
+}
+
+#[test]
+fn couple_wants_one_value_and_stands_once(rt: HostRuntime) -> Result<(), Fail> {
+    let lines: [&[&str]; 7] = [
+        &["--couple", "off"],
+        &["--rate", "192", "--couple"],
+        &["--couple", "--rate", "192"],
+        &["--rate", "192", "--couple=off"],
+        &["--rate", "192", "--Couple", "off"],
+        &["--rate", "192", "--couple", "off", "--couple", "off"],
+        &["--couple", "auto", "--rate", "192", "--couple", "8,12"],
     ];
     for pairs in lines {
         assert!(rt; are_refused(&rt, &line_of(&rt, pairs)?), "{pairs:?}");

@@ -1,6 +1,6 @@
-use Rattle.std.proofs.Common.{ℕ, map, string_bytes, subst, sym}
+use Rattle.std.proofs.Common.{ℕ, map, string_bytes, subst, sym, unwrap_or}
 use Rattle.ac_words.specs.Grammar.{EncodePairs}
-use Rattle.ac_words.specs.declared.meaning.Couple.TheVariants.{Auto}
+use Rattle.ac_words.specs.declared.meaning.Couple.{Couple}
 use Rattle.ac_words.proofs.Said.{no_rate, options, pairs_say, unsaid}
 use Rattle.ac_words.proofs.pairs.encode_options.Goals as goal
 
@@ -12,5 +12,10 @@ returns-in_default-rate c = no_rate (map string_bytes c.args.words.now) c.in-Som
 
 pub returns : goal.returns
 returns c =
-    let said = pairs_say (map string_bytes c.args.words.now) c.in-Some.found c.in-Some-rate.rate c.in-Some-rate.is c.in-Some.ensures in
-    subst (λ (nodes : ℕ). EncodePairs (map string_bytes c.args.words.now) (options c.in-Some-rate.rate nodes c.in-Some.found.bw Auto)) (sym c.unwrap_or.ensures) said
+    let words = map string_bytes c.args.words.now in
+    let rate = c.in-Some-rate.rate in
+    let found = c.in-Some.found in
+    let said = pairs_say words found rate c.in-Some-rate.is c.in-Some.ensures in
+    let nodes = unwrap_or found.nodes 20000 in
+    let coupled = subst (λ (couple : Couple). EncodePairs words (options rate nodes found.bw couple)) (sym c.unwrap_or-2.ensures) said in
+    subst (λ (asked : ℕ). EncodePairs words (options rate asked found.bw c.unwrap_or-2.result)) (sym c.unwrap_or.ensures) coupled
