@@ -1,5 +1,5 @@
 -- Bytes 4 to 7 of a frame are told by its shape and the code of its size, whatever its plan (A/52 5.3.1, 5.3.2).
-use Rattle.std.proofs.Common.{◌≡◌, ℕ, zero, suc, ◌<◌, ◌≤◌, ◌^◌, Bool, List, [], ◌∷◌, ◌++◌, length, take, drop, sum, refl, ap, sym, subst, ◌∙◌, ℤ, arith}
+use Rattle.std.proofs.Common.{◌≡◌, ℕ, zero, suc, ◌<◌, ◌≤◌, ◌^◌, Bool, List, [], ◌∷◌, ◌++◌, length, take, drop, sum, refl, ap, sym, subst, ◌∙◌, arith}
 use Rattle.std.proofs.lemmas.List.{length-drop, drop-append-le, take-append-le}
 use Rattle.ac_base.specs.declared.shapes.Shape.{Shape}
 use Rattle.ac_base.specs.Rates.{IsRate}
@@ -20,9 +20,12 @@ use Rattle.ac_sent.proofs.SizeCodes.{one_code}
 use Rattle.ac_sent.proofs.Sizes.{head_length}
 use Rattle.ac_words.specs.declared.meaning.Options.{Options}
 use Rattle.ac_coding.specs.Values.{values_of}
-use Rattle.ac_enc.specs.Frame.{IsFrame, coefficients, no_flags, no_coordinates}
+use Rattle.ac_base.specs.Sizes.{frame_words_of}
+use Rattle.ac_joint.specs.Joint.{joint_flags, joint_of}
+use Rattle.ac_enc.specs.Frame.{Places, IsFrame, coefficients}
+use Rattle.ac_enc.specs.Layout.{Layout}
 use Rattle.ac_enc.proofs.Bits.{bits_of-take, bits_of-drop}
-use Rattle.ac_enc.proofs.OneShape.{one_shape}
+use Rattle.ac_enc.proofs.OneShape.{one_for}
 
 -- ---- bytes
 tail_bytes : (b : ℕ) (l : List ℕ) → AreBytes (b ∷ l) → AreBytes l
@@ -83,29 +86,32 @@ cut : (head rest : List Bool) → 64 ≤ length head → take 32 (drop 32 (head 
 cut head rest long =
     ap (take 32) (drop-append-le 32 head rest (omega arith)) ∙ take-append-le 32 (drop 32 head) rest (omega (arith, length-drop 32 head))
 
-packed_head : (q : Quantised) (f : List ℕ) (p : IsPacked q f) → q.shape.acmod ≡ 1 → take 32 (drop 32 (bits_of f)) ≡ take 32 (drop 32 (head_bits q.shape p.frmsizecod 0))
-packed_head q f p one =
+rows_long : (acmod : ℕ) → 64 ≤ sum (head_rows acmod)
+rows_long acmod = omega arith
+
+packed_head : (q : Quantised) (f : List ℕ) (p : IsPacked q f) → take 32 (drop 32 (bits_of f)) ≡ take 32 (drop 32 (head_bits q.shape p.frmsizecod 0))
+packed_head q f p =
     let code = p.frmsizecod in
-    let rows : sum (head_rows q.shape.acmod) ≡ 65 = ap (λ n. sum (head_rows n)) one in
+    let rows = rows_long q.shape.acmod in
     let long = head_length q code p.crc1 p.size.known (crc1_fits q f p) in
     ap (λ l. take 32 (drop 32 l)) (p.stands.whole ∙ head_first q code p.crc1 p.crcrsv p.crc2)
     ∙ (cut (head_bits q.shape code p.crc1) (rest_bits q code p.crc1 p.crcrsv p.crc2) (omega (arith, long, rows)) ∙ ap (take 32) (behind_crc1 q.shape code p.crc1))
 
 -- ---- two frames of one shape
-packed_heads : (q r : Quantised) (f g : List ℕ) → q.shape ≡ r.shape → q.shape.acmod ≡ 1 → IsPacked q f → IsPacked r g → take 32 (drop 32 (bits_of f)) ≡ take 32 (drop 32 (bits_of g))
-packed_heads q r f g same one p s =
-    let mine = subst (λ (h : Shape). h.acmod ≡ 1) same one in
+packed_heads : (q r : Quantised) (f g : List ℕ) → q.shape ≡ r.shape → IsPacked q f → IsPacked r g → take 32 (drop 32 (bits_of f)) ≡ take 32 (drop 32 (bits_of g))
+packed_heads q r f g same p s =
     let code = subst (λ (h : Shape). IsSizeCode h.fscod h.words p.frmsizecod) same p.size in
     let codes = one_code r.shape.fscod r.shape.words p.frmsizecod s.frmsizecod r.shape.sampling code s.size in
-    packed_head q f p one
+    packed_head q f p
     ∙ (ap (λ (h : Shape). take 32 (drop 32 (head_bits h p.frmsizecod 0))) same
-    ∙ (ap (λ (k : ℕ). take 32 (drop 32 (head_bits r.shape k 0))) codes ∙ sym (packed_head r g s mine)))
+    ∙ (ap (λ (k : ℕ). take 32 (drop 32 (head_bits r.shape k 0))) codes ∙ sym (packed_head r g s)))
 
-pub heads : (o : Options) (fscod i : ℕ) (x : ℕ → ℤ) (plan other : Plan) (f g : List ℕ) → IsRate o.rate → fscod ≤ 2 → AreBytes f → AreBytes g → IsFrame o fscod i x plan f → IsFrame o fscod i x other g
+pub heads : (o : Options) (l : Layout) (i : ℕ) (x : Places) (plan other : Plan) (f g : List ℕ) → IsRate o.rate → l.fscod ≤ 2 → AreBytes f → AreBytes g → IsFrame o l i x plan f → IsFrame o l i x other g
     → take 4 (drop 4 f) ≡ take 4 (drop 4 g)
 unfolding values_of
-heads o fscod i x plan other f g is known bf bg p q =
-    let mine = values_of p.shape (coefficients x) plan.offset plan.assign no_flags no_coordinates in
-    let its = values_of q.shape (coefficients x) other.offset other.assign no_flags no_coordinates in
-    let bits = packed_heads mine its f g (one_shape o fscod i p.shape q.shape p.shape_is q.shape_is) p.shape_is.one p.coded q.coded in
+heads o l i x plan other f g is known bf bg p q =
+    let z = coefficients x in
+    let mine = values_of p.shape (joint_of p.shape z) plan.offset plan.assign (joint_flags p.shape z) p.coords in
+    let its = values_of q.shape (joint_of q.shape z) other.offset other.assign (joint_flags q.shape z) q.coords in
+    let bits = packed_heads mine its f g (one_for o l (frame_words_of o.rate l.fscod i) z p.shape q.shape p.shape_is q.shape_is) p.coded q.coded in
     same_bytes (after f) (after g) (take_bytes 4 (drop 4 f) (drop_bytes 4 f bf)) (take_bytes 4 (drop 4 g) (drop_bytes 4 g bg)) (after_bits f ∙ (bits ∙ sym (after_bits g)))

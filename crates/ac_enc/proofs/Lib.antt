@@ -1,7 +1,8 @@
-pub mod Asking
+pub mod Alike
 pub mod Bits
+pub mod Cheapest
+pub mod Coordinates
 pub mod First
-pub mod Fitting
 pub mod Frames
 pub mod Heads
 pub mod Last

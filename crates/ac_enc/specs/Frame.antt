@@ -1,51 +1,23 @@
--- The frames of a mono sound (A/52 5.3): the shape and the coefficients of each, a lawful plan of it, and the frame by that plan.
--- The sound of a frame is the 256 places before it, and its own 1,536 (A/52 8.2.3).
-use Rattle.std.specs.Prelude.{◌≡◌, ℕ, zero, suc, nat_eq, if◌then◌else◌, ◌+◌, ◌-◌, ◌*◌, ◌<◌, min, Bool, false, replicate, List, [], ◌++◌, slice_index_or, ℤ, pos, Option, Some, None}
+-- The frames of a sound (A/52 5.3): the shape and the coefficients of each, a lawful plan of it, and the frame by that plan.
+-- The sound of a frame is the 256 places before it, and its own 1,536 (A/52 8.2.3), of each channel in coding order, LFE last.
+use Rattle.std.specs.Prelude.{◌≡◌, ◌⊎◌, ℕ, zero, suc, nat_eq, true, if◌then◌else◌, ◌+◌, ◌*◌, ◌<◌, List, [], ◌++◌, slice_index_or, ℤ, pos, Some, None}
 use Rattle.ac_base.specs.declared.shapes.Shape.{Shape}
 use Rattle.ac_base.specs.Sizes.{frame_words_of, table_words}
 use Rattle.ac_base.specs.Window.{window_of}
+use Rattle.ac_energy.specs.Coefficients.{Coefficients}
 use Rattle.ac_mdct.specs.Forward.{rounded, forward_sum, coefficient}
-use Rattle.ac_joint.specs.declared.Coordinates.{Coordinates}
+use Rattle.ac_coordinates.specs.declared.Coordinates.{Coordinates}
+use Rattle.ac_coupling.specs.Coupling.{AreCoordinates, is_worth}
+use Rattle.ac_joint.specs.Joint.{joint_flags, joint_of}
 use Rattle.ac_plan.specs.declared.answer.Plan.{Plan}
 use Rattle.ac_plan.specs.Plans.{IsLawful}
 use Rattle.ac_record.specs.Frames.{FrameCodes}
 use Rattle.ac_record.specs.Readings.{IsReading}
 use Rattle.ac_sent.specs.Laws.{IsBack}
 use Rattle.ac_coding.specs.Asked.{AreRawOf}
-use Rattle.ac_coding.specs.Values.{Coefficients, values_of, IsCoded}
-use Rattle.ac_riff.specs.declared.head.WavHead.{WavHead}
+use Rattle.ac_coding.specs.Values.{values_of, IsCoded}
 use Rattle.ac_words.specs.declared.meaning.Options.{Options}
-
--- one channel, without LFE (A/52 5.4.2.3 and 5.4.2.7): the layout that is encoded so far
-pub record IsMono (head : WavHead) : Type 0 where
-  pub one : head.acmod ≡ 1
-  pub no_lfe : head.lfe ≡ false
-
--- ---- the shape
-
--- chbwcod where it is asked for, or by the rate in kbit/s: this project's choice (A/52 5.4.3.24)
-abbrev pub bandwidth_by : Option ℕ → ℕ → ℕ
-bandwidth_by None rate = min (rate - 20) 60
-bandwidth_by (Some bw) rate = bw
-
--- chbwcod of the frames
-abbrev pub bandwidth : Options → ℕ
-bandwidth o = bandwidth_by o.bw o.rate
-
--- a shape of one channel, without LFE and coupling
-pub record IsMonoShape (shape : Shape) : Type 0 where
-  pub one : shape.acmod ≡ 1
-  pub no_lfe : shape.lfe ≡ false
-  pub uncoupled : shape.couple ≡ None
-
--- the shape of frame i of a mono sound
-pub record IsShapeOf (o : Options) (fscod i : ℕ) (shape : Shape) : Type 0 where
-  pub sampling : shape.fscod ≡ fscod
-  pub one : shape.acmod ≡ 1
-  pub no_lfe : shape.lfe ≡ false
-  pub width : shape.bw ≡ bandwidth o
-  pub uncoupled : shape.couple ≡ None
-  pub size : shape.words ≡ frame_words_of o.rate fscod i
+use Rattle.ac_enc.specs.Layout.{Layout, range_of, IsShapeWith, CheapestFits}
 
 -- ---- sizes
 
@@ -69,33 +41,56 @@ abbrev pub AreTransformed : (ℕ → ℤ) → List (List ℤ) → Type 0
 AreTransformed x rows =
     (b k : ℕ) → b < 6 → k < 256 → slice_index_or (slice_index_or rows b []) k (pos 0) ≡ coefficient_at x b k
 
--- those of a mono frame, whose one coded channel is channel 0
-abbrev pub coefficients : (ℕ → ℤ) → Coefficients
-coefficients x c b k = coefficient_at x b k
+-- the places of a frame, by channel and place
+abbrev pub Places : Type 0
+Places = ℕ → ℕ → ℤ
+
+-- the coefficients of all channels
+abbrev pub coefficients : Places → Coefficients
+coefficients x c b k = coefficient_at (x c) b k
 
 -- the places of a frame, behind the last 256 of the frame before (A/52 8.2.3)
 abbrev pub joined : List ℤ → List ℤ → ℕ → ℤ
 joined last pcm p = slice_index_or (last ++ pcm) p (pos 0)
 
+-- those of all channels
+abbrev pub joined_by : List (List ℤ) → List (List ℤ) → Places
+joined_by last pcm c = joined (slice_index_or last c []) (slice_index_or pcm c [])
+
+-- ---- the shape
+
+-- a frame of so many words couples with this range: it is usable, the cheapest assignment fits with it, and coupling is worth it, or
+-- the cheapest doesn't fit without it
+pub record Couples (o : Options) (l : Layout) (words : ℕ) (x : Coefficients) (range : ℕ × ℕ) : Type 0 where
+  pub usable : range_of o l ≡ Some range
+  pub fits : CheapestFits o l words (Some range)
+  pub why : ((coupled : Shape) × IsShapeWith o l words (Some range) coupled × (is_worth coupled x ≡ true))
+      ⊎ (CheapestFits o l words None → ⊥)
+
+-- the shape of a frame of so many words with these coefficients
+abbrev pub IsShapeFor : Options → Layout → ℕ → Coefficients → Shape → Type 0
+IsShapeFor o l words x shape =
+    ((range : ℕ × ℕ) × Couples o l words x range × IsShapeWith o l words (Some range) shape)
+    ⊎ (((range : ℕ × ℕ) → Couples o l words x range → ⊥) × IsShapeWith o l words None shape)
+
+-- that of frame i
+abbrev pub IsShapeOf : Options → Layout → ℕ → Coefficients → Shape → Type 0
+IsShapeOf o l i x shape = IsShapeFor o l (frame_words_of o.rate l.fscod i) x shape
+
 -- ---- frames
 
--- one channel has no rematrixing (A/52 7.5)
-abbrev pub no_flags : List Bool
-no_flags = replicate 4 false
-
--- and no coupling (A/52 7.4)
-abbrev pub no_coordinates : Coordinates
-no_coordinates = record { of = replicate 5 (replicate 18 (record { exp = 0; mant = 0 })) }
-
 -- these bytes are frame i of a stream: that of the sound x by this plan
-pub record IsFrame (o : Options) (fscod i : ℕ) (x : ℕ → ℤ) (plan : Plan) (frame : List ℕ) : Type 0 where
+pub record IsFrame (o : Options) (l : Layout) (i : ℕ) (x : Places) (plan : Plan) (frame : List ℕ) : Type 0 where
   pub shape : Shape
-  pub shape_is : IsShapeOf o fscod i shape
+  pub shape_is : IsShapeOf o l i (coefficients x) shape
+  -- the coupling's coordinates (A/52 7.4.3)
+  pub coords : Coordinates
+  pub coords_are : AreCoordinates shape (coefficients x) coords
   pub raw : List (List (List ℕ))
-  pub raw_is : AreRawOf shape (coefficients x) raw
+  pub raw_is : AreRawOf shape (joint_of shape (coefficients x)) raw
   -- the plan fits at its offset, and its mark is true of it (this project's own)
   pub lawful : IsLawful shape raw o.nodes plan
-  pub coded : IsCoded shape (coefficients x) plan.offset plan.assign no_flags no_coordinates frame
+  pub coded : IsCoded shape (joint_of shape (coefficients x)) plan.offset plan.assign (joint_flags shape (coefficients x)) coords frame
   -- what is read of the frame is what was coded
   pub back : (f : FrameCodes) → IsReading frame f
-      → IsBack (values_of shape (coefficients x) plan.offset plan.assign no_flags no_coordinates) f
+      → IsBack (values_of shape (joint_of shape (coefficients x)) plan.offset plan.assign (joint_flags shape (coefficients x)) coords) f

@@ -1,19 +1,21 @@
 //! The encoder of a sound, frame by frame.
-ghost use Rattle.std.specs.Prelude.{◌≡◌, ℕ, ◌+◌, ◌*◌, ◌^◌, ◌<◌, ◌≤◌, [], take, drop, slice_index_or, slice_range, IfOk};
+ghost use Rattle.std.specs.Prelude.{◌≡◌, ℕ, ◌+◌, ◌*◌, ◌^◌, ◌<◌, ◌≤◌, [], take, drop, slice_index_or, slice_range, IfOk, IfErr};
 ghost use Rattle.ac_base.specs.Sigma.{Within};
 ghost use Rattle.ac_base.specs.Sizes.{frame_words_of};
 ghost use Rattle.ac_bits.specs.Bits.{frame_bytes};
 ghost use Rattle.ac_coding.specs.Asked.{AreRawOf};
-ghost use Rattle.ac_plan.specs.declared.answer.Mark.TheVariants.{Best};
+ghost use Rattle.ac_joint.specs.Joint.{joint_of};
 ghost use Rattle.ac_riff.specs.Form.{IsOfProfile};
 ghost use Rattle.ac_words.specs.Lawful.{AreOptions};
 ghost use Rattle.ac_enc.specs.Encoding.{at_first};
-ghost use Rattle.ac_enc.specs.Frame.{IsMono, IsShapeOf, IsFrame, coefficients, joined, no_flags, no_coordinates};
+ghost use Rattle.ac_enc.specs.Frame.{IsShapeOf, IsFrame, coefficients, joined_by};
+ghost use Rattle.ac_enc.specs.Layout.{layout_of, channels_in, IsEnough, IsNewFault};
 
 use crate::fault::NewFault;
-use crate::shapes::shape_of;
+use crate::shapes::{enough, plain_shape};
+use crate::sound::Sound;
 use crate::state::{FrameDone, State};
-use ac_base::{Coefs, Shape};
+use ac_base::{Coefs, Shape, frame_words};
 use ac_bits::FRAME_BYTES;
 use ac_expo::{Assign, RawExps, word_at};
 use ac_joint::{Coordinate, Coordinates};
@@ -29,10 +31,7 @@ const NONE: Coordinates = Coordinates {
 };
 
 /// The values of a frame before any was put together.
-fn blank(shape: Shape) -> Quantised
-    ensures flags { result.remat ≡ no_flags }
-    ensures coordinates { result.coords ≡ no_coordinates }
-{
+fn blank(shape: Shape) -> Quantised {
     Quantised::new(
         shape,
         0,
@@ -44,9 +43,9 @@ fn blank(shape: Shape) -> Quantised
     )
 }
 
-/// The encoder of a mono sound: its samples go in frame by frame, and each frame comes out with its plan. Contracts see its options,
-/// its sampling code, how many frames it has made, and the last samples of each channel. What it keeps, and the arrays that it works
-/// in, is one piece of memory, which is all that it takes.
+/// The encoder of a sound: its samples go in frame by frame, and each frame comes out with its plan. Contracts see its options, its
+/// sampling code and layout, how many frames it has made, and the last samples of each channel. What it keeps, and the arrays that it
+/// works in, is one piece of memory, which is all that it takes.
 #[derive(Drop)]
 pub struct Encoder {
     state: Box<State>,
@@ -69,20 +68,30 @@ impl Encoder {
     ///
     /// # Errors
     ///
-    /// `NoMemory` where the memory wasn't there.
+    /// `RateTooLow` where no shape of a frame fits the rate at the layout, `NoMemory` where the memory wasn't there.
     pub fn new(alloc: Global, options: Options, head: &WavHead) -> Result<Encoder, NewFault>
         requires options { AreOptions options }
         requires profile { IsOfProfile head.now }
-        requires mono { IsMono head.now }
-        ensures value { IfOk result (λ e. e ≡ at_first options head.now.fscod) }
+        ensures value { IfOk result (λ e. e ≡ at_first options (layout_of head.now)) }
+        ensures enough { IfOk result (λ _. IsEnough options (layout_of head.now)) }
+        ensures fault { IfErr result (λ fault. IsNewFault options (layout_of head.now) fault) }
     {
+        let sound = Sound {
+            fscod: head.fscod,
+            acmod: head.acmod,
+            lfe: head.lfe,
+        };
+        if let Err(fault) = enough(&options, &sound) {
+            return Err(fault);
+        }
+        let words = frame_words(options.rate, sound.fscod, 0);
         let state = State {
             options,
-            fscod: head.fscod,
+            sound,
             frames: 0,
             last: [[0; 256]; 6],
             coefs: Coefs::zeros(),
-            q: blank(shape_of(&options, head.fscod, 0)),
+            q: blank(plain_shape(&options, &sound, words)),
         };
         match Box::new(alloc, state) {
             Ok(state) => Ok(Encoder { state }),
@@ -91,34 +100,35 @@ impl Encoder {
     }
 
     /// Makes the next frame, of 1,536 samples of each channel behind the last 256 of the frame before, at the front of `out`. What
-    /// `out` holds behind the frame stays. Samples have 24 bits, and stand in the first row.
+    /// `out` holds behind the frame stays. Samples have 24 bits, and stand by channel in coding order, LFE last.
     ///
-    /// The frame has the greatest SNR offset at which some assignment of exponent strategies fits, and such an assignment. At 44.1 kHz
-    /// the frames' sizes vary by a word, so that the frames so far keep to the rate (A/52 5.4.1.4).
+    /// Its plan has the greatest SNR offset at which some assignment of exponent strategies fits, or a bound of it where the search
+    /// would pass the budget. At 44.1 kHz the frames' sizes vary by a word, so that the frames so far keep to the rate (A/52 5.4.1.4).
     pub fn frame(&mut self, pcm: &[[i32; 1536]; 6], out: &mut [u8; FRAME_BYTES]) -> FrameDone
         requires few { self.old.frames < 2 ^ 32 }
-        requires pcm { Within (2 ^ 23) 1536 (slice_index_or pcm.now 0 []) }
-        ensures size { result.size ≡ 2 * frame_words_of self.old.options.rate self.old.fscod self.old.frames }
+        requires pcm { (c : ℕ) → c < channels_in self.old.layout → Within (2 ^ 23) 1536 (slice_index_or pcm.now c []) }
+        ensures size { result.size ≡ 2 * frame_words_of self.old.options.rate self.old.layout.fscod self.old.frames }
         ensures count { result.size ≤ frame_bytes }
-        ensures frame { IsFrame self.old.options self.old.fscod self.old.frames
-            (joined (slice_index_or self.old.last 0 []) (slice_index_or pcm.now 0 [])) result.plan (take result.size out.new) }
-        ensures mark { result.plan.mark ≡ Best }
+        ensures frame { IsFrame self.old.options self.old.layout self.old.frames (joined_by self.old.last pcm.now) result.plan
+            (take result.size out.new) }
         ensures rest { drop result.size out.new ≡ drop result.size out.old }
         ensures same_options { self.new.options ≡ self.old.options }
-        ensures same_fscod { self.new.fscod ≡ self.old.fscod }
+        ensures same_layout { self.new.layout ≡ self.old.layout }
         ensures frames { self.new.frames ≡ self.old.frames + 1 }
-        ensures last { slice_index_or self.new.last 0 [] ≡ slice_range (slice_index_or pcm.now 0 []) 1280 1536 }
+        ensures last { (c : ℕ) → c < channels_in self.old.layout
+            → slice_index_or self.new.last c [] ≡ slice_range (slice_index_or pcm.now c []) 1280 1536 }
     {
         self.state.frame(pcm, out)
     }
 
-    /// What the next frame, of these samples, would be planned with: its shape, and the raw exponents of its coefficients.
+    /// What the next frame, of these samples, would be planned with: its shape, and the raw exponents of its coefficients by coded
+    /// channel.
     pub fn raw_of(&self, pcm: &[[i32; 1536]; 6]) -> (Shape, RawExps)
         requires few { self.now.frames < 2 ^ 32 }
-        requires pcm { Within (2 ^ 23) 1536 (slice_index_or pcm.now 0 []) }
-        ensures shape { IsShapeOf self.now.options self.now.fscod self.now.frames result.0 }
-        ensures raw { AreRawOf result.0
-            (coefficients (joined (slice_index_or self.now.last 0 []) (slice_index_or pcm.now 0 []))) result.1.e }
+        requires pcm { (c : ℕ) → c < channels_in self.now.layout → Within (2 ^ 23) 1536 (slice_index_or pcm.now c []) }
+        ensures shape { IsShapeOf self.now.options self.now.layout self.now.frames (coefficients (joined_by self.now.last pcm.now))
+            result.0 }
+        ensures raw { AreRawOf result.0 (joint_of result.0 (coefficients (joined_by self.now.last pcm.now))) result.1.e }
     {
         self.state.raw_of(pcm)
     }

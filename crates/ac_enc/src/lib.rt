@@ -5,6 +5,7 @@ mod encoder;
 mod fault;
 mod law;
 mod shapes;
+mod sound;
 mod state;
 #[cfg(test)]
 mod tests;

@@ -1,8 +1,9 @@
 //! The coefficients of a frame's six blocks.
 ghost use Rattle.std.specs.Prelude.{◌≡◌, ℕ, ◌+◌, ◌*◌, ◌-◌, ◌^◌, ◌<◌, ◌≤◌, [], ◌++◌, length, slice_index_or, ℤ, pos, unsigned_abs};
 ghost use Rattle.ac_base.specs.Sigma.{Within, Lists};
-ghost use Rattle.ac_enc.specs.Frame.{coefficient_at, AreTransformed, joined};
+ghost use Rattle.ac_enc.specs.Frame.{coefficient_at, AreTransformed, joined, joined_by};
 
+use ac_base::Coefs;
 use ac_mdct::forward;
 
 /// Place `p` of the samples behind the last ones.
@@ -46,7 +47,7 @@ fn transform_block(last: &[i32; 256], pcm: &[i32; 1536], b: usize, row: &mut [i3
 }
 
 /// The coefficients of the six blocks of the samples behind the last ones.
-pub fn transform(last: &[i32; 256], pcm: &[i32; 1536], rows: &mut [[i32; 256]; 6])
+fn transform(last: &[i32; 256], pcm: &[i32; 1536], rows: &mut [[i32; 256]; 6])
     requires last { Within (2 ^ 23) 256 last.now }
     requires pcm { Within (2 ^ 23) 1536 pcm.now }
     ensures value { AreTransformed (joined last.now pcm.now) rows.new }
@@ -54,6 +55,24 @@ pub fn transform(last: &[i32; 256], pcm: &[i32; 1536], rows: &mut [[i32; 256]; 6
 {
     for b in 0..6usize {
         transform_block(last, pcm, b, &mut rows[b]);
+    }
+}
+
+/// Those of the first `count` channels.
+pub fn transform_channels(
+    last: &[[i32; 256]; 6],
+    pcm: &[[i32; 1536]; 6],
+    count: u8,
+    coefs: &mut Coefs,
+)
+    requires count { count ≤ 6 }
+    requires last { (c : ℕ) → c < count → Within (2 ^ 23) 256 (slice_index_or last.now c []) }
+    requires pcm { (c : ℕ) → c < count → Within (2 ^ 23) 1536 (slice_index_or pcm.now c []) }
+    ensures value { (c : ℕ) → c < count → AreTransformed (joined_by last.now pcm.now c) (slice_index_or coefs.new.c c []) }
+    ensures bound { (c b : ℕ) → c < count → b < 6 → Within (2 ^ 24 - 1) 256 (slice_index_or (slice_index_or coefs.new.c c []) b []) }
+{
+    for c in 0..usize::from(count) {
+        transform(&last[c], &pcm[c], &mut coefs.c[c]);
     }
 }
 

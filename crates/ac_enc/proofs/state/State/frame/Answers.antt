@@ -1,30 +1,44 @@
-use Rattle.std.proofs.Common.{[], ◌∙◌, slice_index_or, take}
-use Rattle.ac_enc.specs.Frame.{joined}
-use Rattle.ac_enc.proofs.Made.{shape_sized, frame_made, coded_mono}
-use Rattle.ac_enc.proofs.Last.{last_bound}
+use Rattle.std.proofs.Common.{take, arith}
+use Rattle.ac_energy.specs.Coefficients.{entry}
+use Rattle.ac_joint.specs.Joint.{joint_of}
+use Rattle.ac_enc.specs.Frame.{coefficients, joined_by}
+use Rattle.ac_enc.specs.Sounds.{layout_in}
+use Rattle.ac_enc.proofs.Coordinates.{coordinates_small}
+use Rattle.ac_enc.proofs.Last.{few_channels, lasts_bound}
+use Rattle.ac_enc.proofs.Made.{frame_made, raw_agrees, shape_at, shape_sized}
 use Rattle.ac_enc.proofs.state.State.frame.Goals as goal
 
 pub code_frame-size-requires-clause-sized : goal.code_frame-size-requires-clause-sized
 code_frame-size-requires-clause-sized c =
     let self = c.args.self.now in
-    shape_sized self.options self.fscod self.frames c.shape_of-shape.result c.requires.state.options.rate c.shape_of-shape.ensures
+    let l = layout_in self.sound in
+    let x = coefficients (joined_by self.last c.args.pcm.now) in
+    shape_sized self.options l self.frames x c.prepare-made.result.shape c.requires.state.options.rate
+    (shape_at self.options l self.frames x c.words-words.result c.prepare-made.result.shape c.words-words.ensures.value c.prepare-made.ensures.shape)
+
+pub code_frame-size-requires-clause-coordinates : goal.code_frame-size-requires-clause-coordinates
+code_frame-size-requires-clause-coordinates c =
+    coordinates_small c.prepare-made.result.shape (coefficients (joined_by c.args.self.now.last c.args.pcm.now)) c.prepare-made.result.joint.coords c.prepare-made.ensures.coordinates
 
 pub returns-clause-frame : goal.returns-clause-frame
 returns-clause-frame c =
     let self = c.args.self.now in
-    let x = joined (slice_index_or self.last 0 []) (slice_index_or c.args.pcm.now 0 []) in
-    let plan = c.best-plan.result in
-    let frame = take c.code_frame-size.result c.code_frame-size.new.out in
-    let coefs = c.exponents-raw.new.coefs.c in
-    let coded = coded_mono c.shape_of-shape.result coefs plan.offset plan.assign self.q.remat self.q.coords frame c.requires.state.flags c.requires.state.coordinates c.code_frame-size.ensures.frame in
-    frame_made self.options self.fscod self.frames x plan frame c.shape_of-shape.result coefs c.exponents-raw.result.e c.requires.state.options.rate c.shape_of-shape.ensures
-    c.exponents-raw.ensures.transformed c.exponents-raw.ensures.raw c.best-plan.ensures.lawful coded
+    let l = layout_in self.sound in
+    let x = joined_by self.last c.args.pcm.now in
+    let made = c.prepare-made in
+    let shape = made.result.shape in
+    let z = entry made.new.coefs.c in
+    let is = shape_at self.options l self.frames (coefficients x) c.words-words.result shape c.words-words.ensures.value made.ensures.shape in
+    let raw_is = raw_agrees shape (joint_of shape (coefficients x)) made.new.coefs.c made.result.raw.e made.ensures.joint made.ensures.raw in
+    frame_made self.options l self.frames x c.plan-plan.result (take c.code_frame-size.result c.code_frame-size.new.out) shape z made.result.raw.e made.result.joint.remat made.result.joint.coords
+    is made.ensures.flags made.ensures.coordinates made.ensures.joint raw_is c.plan-plan.ensures.lawful c.code_frame-size.ensures.frame c.code_frame-size.ensures.back
+
+pub returns-clause-last : goal.returns-clause-last
+returns-clause-last c = λ channel below. let few = few_channels (layout_in c.args.self.now.sound) c.args.self.now.sound.modes in c.keep.ensures channel (omega (arith, below, few))
 
 pub returns-clause-state : goal.returns-clause-state
 returns-clause-state c = record {
   options = c.requires.state.options;
-  sampling = c.requires.state.sampling;
-  last = last_bound (slice_index_or c.args.pcm.now 0 []) (slice_index_or c.keep.new.last 0 []) c.keep.ensures c.requires.pcm;
-  flags = c.code_frame-size.ensures.same_flags ∙ c.requires.state.flags;
-  coordinates = c.code_frame-size.ensures.same_coordinates ∙ c.requires.state.coordinates;
+  enough = c.requires.state.enough;
+  last = lasts_bound (layout_in c.args.self.now.sound) c.args.self.now.sound.modes c.args.pcm.now c.keep.new.last c.keep.ensures c.requires.pcm;
 }
