@@ -4,28 +4,22 @@ use Rattle.ac_base.specs.Rates.{IsRate}
 use Rattle.ac_io.specs.Outside.{Adds}
 use Rattle.ac_riff.specs.declared.head.WavHead.{WavHead}
 use Rattle.ac_wav.specs.Whole.{behind}
-use Rattle.ac_words.specs.Grammar.{Text, LastWords, encode}
+use Rattle.ac_words.specs.Grammar.{Text}
 use Rattle.ac_words.specs.declared.meaning.Command.TheVariants.{Encode}
 use Rattle.ac_words.specs.declared.meaning.Options.{Options}
-use Rattle.ac_words.proofs.Split.{one_meaning}
+use Rattle.ac_app.specs.Input.{IsInput}
 use Rattle.ac_app.specs.Sound.{sound_of, frames_of}
-use Rattle.ac_app.specs.Stream.{stream_size}
+use Rattle.ac_app.specs.Stream.{stream_size, FramesAreSized}
 use Rattle.ac_app.specs.World.{World}
 use Rattle.ac_app.specs.Run.{AsksEncode, IsEncoded}
 use Rattle.ac_app.proofs.Inputs.{one_input, sampling}
-use Rattle.ac_app.proofs.Jobs.{is_lawful}
+use Rattle.ac_app.proofs.Jobs.{is_lawful, one_asked}
 use Rattle.ac_app.proofs.Laws.{size}
 
 -- ---- the options that the words ask for
 
 asked_rate : (ws : List Text) (o : Options) → AsksEncode ws o → IsRate o.rate
 asked_rate ws o a = (is_lawful ws (Encode o) a).rate
-
-same_options : (o p : Options) (n m : LastWords) → encode o n ≡ encode p m → o ≡ p
-same_options o p n m e = cc
-
-one_asked : (ws : List Text) (o p : Options) → AsksEncode ws o → AsksEncode ws p → o ≡ p
-one_asked ws o p a b = same_options o p a.0 b.0 (one_meaning ws (encode o a.0) (encode p b.0) a.1 b.1)
 
 -- ---- what is left
 
@@ -36,24 +30,27 @@ some_same a b e = cc
 gained : (a b : Option (List ℕ)) (before now piece : List ℕ) → a ≡ Some before → b ≡ Some now → Adds a b piece → now ≡ before ++ piece
 gained a b before now piece e f p = some_same now (before ++ piece) (sym f ∙ subst (λ (o : Option (List ℕ)). Adds o b piece) e p)
 
+input_by : (o p : Options) (bytes : List ℕ) (head : WavHead) → o ≡ p → IsInput o bytes head → IsInput p bytes head
+input_by o p bytes head same i = subst (λ (q : Options). IsInput q bytes head) same i
+
 pub same_left : (ws : List Text) (o p : Options) (bytes : List ℕ) (old new again after : World) → AsksEncode ws o → AsksEncode ws p → IsEncoded o bytes old new → IsEncoded p bytes again after
     → new.input.bytes ≡ after.input.bytes
 same_left ws o p bytes old new again after a b x y =
-    x.left ∙ (ap (λ (w : WavHead). Some (behind w bytes)) (one_input bytes x.head y.head x.input y.input) ∙ sym y.left)
+    x.left ∙ (ap (λ (w : WavHead). Some (behind w bytes)) (one_input p bytes x.head y.head (input_by o p bytes x.head (one_asked ws o p a b) x.input) y.input) ∙ sym y.left)
 
-pub done_size : (ws : List Text) (o : Options) (bytes before out : List ℕ) (old new : World) → AsksEncode ws o → (e : IsEncoded o bytes old new) → old.sinks.output.bytes ≡ Some before
+pub done_size : FramesAreSized → (ws : List Text) (o : Options) (bytes before out : List ℕ) (old new : World) → AsksEncode ws o → (e : IsEncoded o bytes old new) → old.sinks.output.bytes ≡ Some before
     → new.sinks.output.bytes ≡ Some out → length out ≡ length before + stream_size o (sound_of e.head bytes) (frames_of (sound_of e.head bytes))
-done_size ws o bytes before out old new a x f g =
+done_size sized ws o bytes before out old new a x f g =
     let told = gained old.sinks.output.bytes new.sinks.output.bytes before out x.stream f g x.output in
     let sound = sound_of x.head bytes in
-    let long = size o (frames_of sound) sound x.stream x.lines (asked_rate ws o a) (sampling bytes x.head x.input) x.is_stream in
+    let long = size sized o (frames_of sound) sound x.stream x.lines (asked_rate ws o a) (sampling o bytes x.head x.input) x.is_stream in
     ap length told ∙ (length-append before x.stream ∙ ap (λ n. length before + n) long)
 
-pub same_size : (ws : List Text) (o p : Options) (bytes before out other : List ℕ) (old new again after : World) → AsksEncode ws o → AsksEncode ws p → IsEncoded o bytes old new → IsEncoded p bytes again after
+pub same_size : FramesAreSized → (ws : List Text) (o p : Options) (bytes before out other : List ℕ) (old new again after : World) → AsksEncode ws o → AsksEncode ws p → IsEncoded o bytes old new → IsEncoded p bytes again after
     → old.sinks.output.bytes ≡ Some before → new.sinks.output.bytes ≡ Some out → again.sinks.output.bytes ≡ Some before → after.sinks.output.bytes ≡ Some other → length out ≡ length other
-same_size ws o p bytes before out other old new again after a b x y f g h k =
-    let first = done_size ws o bytes before out old new a x f g in
-    let second = done_size ws p bytes before other again after b y h k in
+same_size sized ws o p bytes before out other old new again after a b x y f g h k =
+    let first = done_size sized ws o bytes before out old new a x f g in
+    let second = done_size sized ws p bytes before other again after b y h k in
     let options = ap (λ (q : Options). length before + stream_size q (sound_of x.head bytes) (frames_of (sound_of x.head bytes))) (one_asked ws o p a b) in
-    let heads = ap (λ (w : WavHead). length before + stream_size p (sound_of w bytes) (frames_of (sound_of w bytes))) (one_input bytes x.head y.head x.input y.input) in
+    let heads = ap (λ (w : WavHead). length before + stream_size p (sound_of w bytes) (frames_of (sound_of w bytes))) (one_input p bytes x.head y.head (input_by o p bytes x.head (one_asked ws o p a b) x.input) y.input) in
     first ∙ (options ∙ (heads ∙ sym second))

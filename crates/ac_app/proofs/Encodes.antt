@@ -2,6 +2,9 @@
 use Rattle.std.proofs.Common.{◌≡◌, ℕ, List, Option, refl, ap, sym, subst, ◌∙◌, arith, inl, inr, Result, Ok, Err}
 use Rattle.std.specs.Prelude.{MatchResult}
 use Rattle.ac_enc.specs.Encoding.{Encoding, at_first}
+use Rattle.ac_enc.specs.Layout.{Layout}
+use Rattle.ac_enc.specs.declared.fault.NewFault.{NewFault}
+use Rattle.ac_enc.specs.declared.fault.NewFault.TheVariants as new_faults
 use Rattle.ac_io.specs.Within.{TakesAtMost}
 use Rattle.ac_riff.specs.declared.fault.WavFault.{WavFault}
 use Rattle.ac_riff.specs.declared.fault.WavFault.TheVariants as wav
@@ -14,8 +17,8 @@ use Rattle.ac_words.specs.declared.meaning.Options.{Options}
 use Rattle.ac_app.specs.declared.frames.Stop.{Stop}
 use Rattle.ac_app.specs.declared.frames.Stop.TheVariants as stops
 use Rattle.ac_app.specs.declared.status.Status.{Status}
-use Rattle.ac_app.specs.Input.{limit}
-use Rattle.ac_app.specs.Loop.{StopLeaves, unread_status, ended_status}
+use Rattle.ac_app.specs.Input.{limit, Suits}
+use Rattle.ac_app.specs.Loop.{StopLeaves, unread_status, denied_status, ended_status}
 use Rattle.ac_app.specs.Run.{Encodes, StopsBefore, StopsIn, Breaks, EncodeLeaves, EncodeHasCause}
 use Rattle.ac_app.specs.World.{Told, Sinks, World}
 
@@ -33,6 +36,17 @@ pub untaken : (bytes : List ℕ) (head : WavHead) (left : Option (List ℕ)) →
 untaken bytes head left h other is =
     let same = ap (λ (w : WavHead). w.taken) (heads.one_head bytes head other h.is is) in
     subst (TakesAtMost bytes other.taken) (sym h.left_is) (head.taken, omega (arith, same), taken_within bytes head h.is, refl)
+
+-- there is no encoder
+denies_so : (o : Options) (fault : NewFault) (bytes : List ℕ) (head : WavHead) (old new : World) → HeadRead bytes limit head new.input.bytes → StopsBefore bytes old new
+    → EncodeLeaves o (denied_status fault) bytes old new
+denies_so o (new_faults.RateTooLow part needed room) bytes head old new h s =
+    record { head = head; begins = h.is; stands = record { within = taken_within bytes head h.is; left_is = h.left_is }; before = s }
+denies_so o new_faults.NoMemory bytes head old new h s = s
+
+pub denies : (o : Options) (fault : NewFault) (status : Status) (bytes : List ℕ) (head : WavHead) (old new : World) → status ≡ denied_status fault
+    → HeadRead bytes limit head new.input.bytes → StopsBefore bytes old new → EncodeLeaves o status bytes old new
+denies o fault status bytes head old new e h s = subst (λ (t : Status). EncodeLeaves o t bytes old new) (sym e) (denies_so o fault bytes head old new h s)
 
 -- what the input told before its head was read is all that differs
 abbrev with : Told → Sinks → World
@@ -53,7 +67,7 @@ stops_in o (wav.Bad kind place) bytes a b s new e = inr (e.1, in_from o bytes a 
 stops_in o wav.ReadFault bytes a b s new e = inr (in_from o bytes a b s new e)
 stops_in o wav.TooLong bytes a b s new e = inr (e.1, in_from o bytes a b s new e.2)
 
-stop_cause : (o : Options) (fault : WavFault) (bytes : List ℕ) (old new : World) → StopLeaves o (stops.Input fault) bytes old new → EncodeHasCause (unread_status fault) bytes
+stop_cause : (o : Options) (fault : WavFault) (bytes : List ℕ) (old new : World) → StopLeaves o (stops.Input fault) bytes old new → EncodeHasCause o (unread_status fault) bytes
 stop_cause o (wav.Bad kind place) bytes old new s = s.0
 stop_cause o wav.ReadFault bytes old new s = tt
 stop_cause o wav.TooLong bytes old new s = (s.0, refl)
@@ -68,15 +82,22 @@ leaves_so o (Err (stops.Sink broken)) bytes a b s new e = breaks_from o bytes a 
 -- ---- the encoder that was made
 
 -- it stands at its first frame
-pub at_first_by : (o : Options) (fscod : ℕ) (e : Encoding) → e ≡ at_first o fscod → e ≡ at_first e.options fscod
-at_first_by o fscod e is = is ∙ ap (λ (p : Options). at_first p fscod) (sym (ap (λ (d : Encoding). d.options) is))
+pub at_first_by : (o : Options) (l : Layout) (e : Encoding) → e ≡ at_first o l → e ≡ at_first e.options l
+at_first_by o l e is = is ∙ ap (λ (p : Options). at_first p l) (sym (ap (λ (d : Encoding). d.options) is))
+
+pub suits_by : (o : Options) (l : Layout) (head : WavHead) (e : Encoding) → e ≡ at_first o l → Suits o head → Suits e.options head
+suits_by o l head e is suits = subst (λ (p : Options). Suits p head) (sym (ap (λ (d : Encoding). d.options) is)) suits
 
 -- and has the options that it was made with
-pub by_options : (o : Options) (fscod : ℕ) (e : Encoding) (end : Result (Unit {0}) Stop) (bytes : List ℕ) (old new : World) → e ≡ at_first o fscod
+pub by_options : (o : Options) (l : Layout) (e : Encoding) (end : Result (Unit {0}) Stop) (bytes : List ℕ) (old new : World) → e ≡ at_first o l
     → MatchResult end (λ _. Encodes e.options bytes old new) (λ stop. StopLeaves e.options stop bytes old new)
     → MatchResult end (λ _. Encodes o bytes old new) (λ stop. StopLeaves o stop bytes old new)
-by_options o fscod e end bytes old new is told =
+by_options o l e end bytes old new is told =
     subst (λ (p : Options). MatchResult end (λ _. Encodes p bytes old new) (λ stop. StopLeaves p stop bytes old new)) (ap (λ (d : Encoding). d.options) is) told
+
+-- so has its cause
+pub cause_by : (o : Options) (l : Layout) (e : Encoding) (status : Status) (bytes : List ℕ) → e ≡ at_first o l → EncodeHasCause e.options status bytes → EncodeHasCause o status bytes
+cause_by o l e status bytes is cause = subst (λ (p : Options). EncodeHasCause p status bytes) (ap (λ (d : Encoding). d.options) is) cause
 
 -- ---- the end
 
@@ -85,7 +106,7 @@ pub ended_leaves : (o : Options) (end : Result (Unit {0}) Stop) (status : Status
 ended_leaves o end status bytes a b s new is e = subst (λ (t : Status). EncodeLeaves o t bytes (with a s) new) (sym is) (leaves_so o end bytes a b s new e)
 
 pub ended_cause : (o : Options) (end : Result (Unit {0}) Stop) (bytes : List ℕ) (old new : World)
-    → MatchResult end (λ _. Encodes o bytes old new) (λ stop. StopLeaves o stop bytes old new) → EncodeHasCause (ended_status end) bytes
+    → MatchResult end (λ _. Encodes o bytes old new) (λ stop. StopLeaves o stop bytes old new) → EncodeHasCause o (ended_status end) bytes
 ended_cause o (Ok _) bytes old new s = (s.head, s.input)
 ended_cause o (Err (stops.Input fault)) bytes old new s = stop_cause o fault bytes old new s
 ended_cause o (Err (stops.Sink broken)) bytes old new s = (s.head, s.begun)

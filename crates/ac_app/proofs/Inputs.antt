@@ -1,9 +1,13 @@
 -- Which inputs are encoded, and why others are refused.
-use Rattle.std.proofs.Common.{◌≡◌, ◌⊎◌, ℕ, ◌≤◌, Bool, true, false, List, take, Option, subst, refl, sym, ap, ◌∙◌, arith, lit≤, inl, inr}
+use Rattle.std.proofs.Common.{◌≡◌, ◌⊎◌, ℕ, ◌≤◌, Bool, true, false, List, take, Option, None, subst, refl, sym, ap, arith, lit≤, inl, inr}
 use Rattle.std.specs.Prelude.{◌==◌, if◌then◌else◌}
-use Rattle.std.proofs.lemmas.Bool.{cases_eq, cases_lt}
+use Rattle.std.proofs.lemmas.Bool.{cases_lt}
+use Rattle.ac_base.specs.declared.sizes.Part.{Part}
+use Rattle.ac_base.specs.Fit.{rooms_of}
+use Rattle.ac_base.specs.Rates.{IsRate}
+use Rattle.ac_base.specs.Sizes.{table_words}
 use Rattle.ac_riff.specs.declared.fault.WavKind.{WavKind}
-use Rattle.ac_riff.specs.declared.fault.WavKind.TheVariants.{Short, NoData, NotYet}
+use Rattle.ac_riff.specs.declared.fault.WavKind.TheVariants.{Short, NoData}
 use Rattle.ac_riff.specs.declared.fault.WavFault.{WavFault}
 use Rattle.ac_riff.specs.declared.fault.WavFault.TheVariants as wav_faults
 use Rattle.ac_riff.specs.declared.head.WavHead.{WavHead}
@@ -16,22 +20,30 @@ use Rattle.ac_riff.proofs.Endings as heads
 use Rattle.ac_riff.proofs.Each as heads_each
 use Rattle.ac_wav.proofs.Whole.{wav_never_both, wav_one_refusal, each_within, never_ends_and_needs, never_refused_and_needs}
 use Rattle.ac_riff.proofs.Fronts.{head_cut}
-use Rattle.ac_enc.specs.Frame.{IsMono}
-use Rattle.ac_app.specs.Input.{limit, IsOther, IsInput, HasNoOther, IsNotYet, IsRefused, IsTooLong}
+use Rattle.ac_enc.specs.Layout.{layout_of, cheapest_bits, IsTooLow, IsNewFault}
+use Rattle.ac_enc.specs.declared.fault.NewFault.{NewFault}
+use Rattle.ac_enc.specs.declared.fault.NewFault.TheVariants as new_faults
+use Rattle.ac_words.specs.declared.meaning.Options.{Options}
+use Rattle.ac_app.specs.Input.{limit, Suits, IsUnsuited, IsInput, HasNoUnsuited, IsRefused, IsTooLong, IsRateTooLow}
 use Rattle.ac_app.specs.Run.{EncodeHasCause}
-use Rattle.ac_app.specs.Loop.{unread_status}
+use Rattle.ac_app.specs.Loop.{unread_status, denied_status}
+use Rattle.ac_app.proofs.Enough.{enough_known, too_low, one_over}
 
 -- ---- heads
 
-pub begins : (bytes : List ℕ) (head : WavHead) → IsInput bytes head → IsHead bytes head
-begins bytes head i = i.wav.whole.begins
+pub begins : (o : Options) (bytes : List ℕ) (head : WavHead) → IsInput o bytes head → IsHead bytes head
+begins o bytes head i = i.wav.whole.begins
 
-pub one_input : (bytes : List ℕ) (head other : WavHead) → IsInput bytes head → IsInput bytes other → head ≡ other
-one_input bytes head other i j = heads.one_head bytes head other (begins bytes head i) (begins bytes other j)
+pub one_input : (o : Options) (bytes : List ℕ) (head other : WavHead) → IsInput o bytes head → IsInput o bytes other → head ≡ other
+one_input o bytes head other i j = heads.one_head bytes head other (begins o bytes head i) (begins o bytes other j)
 
--- a mono head leaves no other
-pub no_other : (bytes : List ℕ) (head : WavHead) → IsHead bytes head → IsMono head → HasNoOther bytes
-no_other bytes head h mono other o = o.other (subst IsMono (heads.one_head bytes head other h o.begins) mono)
+-- a head that the rate is enough for leaves none that it isn't enough for
+pub no_unsuited : (o : Options) (bytes : List ℕ) (head : WavHead) → IsHead bytes head → Suits o head → HasNoUnsuited o bytes
+no_unsuited o bytes head h suits other u = u.unsuited (subst (Suits o) (heads.one_head bytes head other h u.begins) suits)
+
+-- a rate that is too low isn't enough
+unsuited : (o : Options) (bytes : List ℕ) (part : Part) (needed room : ℕ) → (t : IsRateTooLow o bytes part needed room) → IsUnsuited o bytes t.head
+unsuited o bytes part needed room t = record { begins = t.begins; within = t.within; unsuited = t.low.short }
 
 -- fscod of a head that is accepted
 small : (first second : Bool) → (if first then 0 else (if second then 1 else 2)) ≤ 2
@@ -42,93 +54,93 @@ small false false = lit≤ tt
 fscod_small : (rate : ℕ) → fscod_of rate ≤ 2
 fscod_small rate = small (rate == 48000) (rate == 44100)
 
-pub sampling : (bytes : List ℕ) (head : WavHead) → IsInput bytes head → head.fscod ≤ 2
-sampling bytes head i =
-    let h = begins bytes head i in
+pub sampling : (o : Options) (bytes : List ℕ) (head : WavHead) → IsInput o bytes head → head.fscod ≤ 2
+sampling o bytes head i =
+    let h = begins o bytes head i in
     subst (λ (n : ℕ). n ≤ 2) (sym (ap (λ (w : WavHead). w.fscod) h.says)) (fscod_small (format_of (body_of h.chunk)).rate)
 
 -- ---- never two of them
 
-pub never_both : (bytes : List ℕ) (head : WavHead) (kind : WavKind) (place : ℕ) → IsInput bytes head → IsRefused bytes kind place → ⊥
-never_both bytes head kind place i (inl r) = no_other bytes head (begins bytes head i) i.mono r.1.0 r.1.1
-never_both bytes head kind place i (inr r) = wav_never_both bytes head kind place i.wav.whole r.0.0
+pub never_both : (o : Options) (bytes : List ℕ) (head : WavHead) (kind : WavKind) (place : ℕ) → IsInput o bytes head → IsRefused o bytes kind place → ⊥
+never_both o bytes head kind place i r = wav_never_both bytes head kind place i.wav.whole r.0.0
 
-pub never_longer : (bytes : List ℕ) (head : WavHead) → IsInput bytes head → IsTooLong bytes → ⊥
-never_longer bytes head i t = never_ends_and_needs bytes head limit i.wav t.0
+pub never_longer : (o : Options) (bytes : List ℕ) (head : WavHead) → IsInput o bytes head → IsTooLong o bytes → ⊥
+never_longer o bytes head i t = never_ends_and_needs bytes head limit i.wav t.0
 
-pub never_refused : (bytes : List ℕ) (kind : WavKind) (place : ℕ) → IsRefused bytes kind place → IsTooLong bytes → ⊥
-never_refused bytes kind place (inl r) t = t.1 r.1.0 r.1.1
-never_refused bytes kind place (inr r) t = never_refused_and_needs bytes kind place limit r.0 t.0
+pub never_refused : (o : Options) (bytes : List ℕ) (kind : WavKind) (place : ℕ) → IsRefused o bytes kind place → IsTooLong o bytes → ⊥
+never_refused o bytes kind place r t = never_refused_and_needs bytes kind place limit r.0 t.0
 
-not_yet_once : (bytes : List ℕ) (kind other : WavKind) (place there : ℕ) → IsNotYet bytes kind place → IsNotYet bytes other there → (kind ≡ other) × (place ≡ there)
-not_yet_once bytes kind other place there r s =
-    let same = heads.one_head bytes r.1.0 s.1.0 r.1.1.begins s.1.1.begins in
-    (r.0 ∙ sym s.0, r.1.2 ∙ (ap (λ (w : WavHead). w.taken) same ∙ sym s.1.2))
+pub never_low : (o : Options) (bytes : List ℕ) (part : Part) (needed room : ℕ) (head : WavHead) → IsRateTooLow o bytes part needed room → IsInput o bytes head → ⊥
+never_low o bytes part needed room head t i = no_unsuited o bytes head (begins o bytes head i) i.suits t.head (unsuited o bytes part needed room t)
 
-pub one_refusal : (bytes : List ℕ) (kind other : WavKind) (place there : ℕ) → IsRefused bytes kind place → IsRefused bytes other there → (kind ≡ other) × (place ≡ there)
-one_refusal bytes kind other place there (inl r) (inl s) = not_yet_once bytes kind other place there r s
-one_refusal bytes kind other place there (inl r) (inr s) = absurd (s.1 r.1.0 r.1.1)
-one_refusal bytes kind other place there (inr r) (inl s) = absurd (r.1 s.1.0 s.1.1)
-one_refusal bytes kind other place there (inr r) (inr s) = wav_one_refusal bytes kind other place there r.0.0 s.0.0
+pub never_refused_low : (o : Options) (bytes : List ℕ) (part : Part) (needed room : ℕ) (kind : WavKind) (place : ℕ) → IsRateTooLow o bytes part needed room → IsRefused o bytes kind place → ⊥
+never_refused_low o bytes part needed room kind place t r = r.1 t.head (unsuited o bytes part needed room t)
+
+pub never_longer_low : (o : Options) (bytes : List ℕ) (part : Part) (needed room : ℕ) → IsRateTooLow o bytes part needed room → IsTooLong o bytes → ⊥
+never_longer_low o bytes part needed room t l = l.1 t.head (unsuited o bytes part needed room t)
+
+pub one_refusal : (o : Options) (bytes : List ℕ) (kind other : WavKind) (place there : ℕ) → IsRefused o bytes kind place → IsRefused o bytes other there → (kind ≡ other) × (place ≡ there)
+one_refusal o bytes kind other place there r s = wav_one_refusal bytes kind other place there r.0.0 s.0.0
+
+pub one_low : (o : Options) (bytes : List ℕ) (part other : Part) (needed room much little : ℕ) → IsRateTooLow o bytes part needed room → IsRateTooLow o bytes other much little
+    → (part ≡ other) × (needed ≡ much) × (room ≡ little)
+one_low o bytes part other needed room much little t u =
+    let same = heads.one_head bytes u.head t.head u.begins t.begins in
+    let low = subst (λ (h : WavHead). IsTooLow o (layout_of h) other much little) same u.low in
+    let l = layout_of t.head in
+    one_over (cheapest_bits o l None) (rooms_of (table_words o.rate l.fscod)) part other needed room much little t.low.first low.first
 
 -- ---- one of them
 
-no_lfe_known : (lfe : Bool) → (lfe ≡ false) ⊎ (lfe ≡ false → ⊥)
-no_lfe_known true = inr (λ e. absurd (cc))
-no_lfe_known false = inl refl
-
-mono_known : (head : WavHead) → IsMono head ⊎ (IsMono head → ⊥)
-mono_known head = elim (cases_eq head.acmod 1) [
-  | inl one ↦ elim (no_lfe_known head.lfe) [
-    | inl none ↦ inl (record { one = one; no_lfe = none })
-    | inr some ↦ inr (λ m. some m.no_lfe)
-  ]
-  | inr more ↦ inr (λ m. more m.one)
-]
-
-of_head : (bytes : List ℕ) (head : WavHead) → IsHead bytes head → ((other : WavHead) × IsOther bytes other) ⊎ HasNoOther bytes
-of_head bytes head h = elim (mono_known head) [
-  | inl mono ↦ inr (no_other bytes head h mono)
-  | inr other ↦ elim (cases_lt limit head.taken) [
-    | inl far ↦ inr (λ another o. let same = ap (λ (w : WavHead). w.taken) (heads.one_head bytes head another h o.begins) in omega (arith, far, same, o.within))
-    | inr near ↦ inl (head, record { begins = h; within = near; other = other })
+of_head : (o : Options) (bytes : List ℕ) (head : WavHead) → IsHead bytes head → ((other : WavHead) × IsUnsuited o bytes other) ⊎ HasNoUnsuited o bytes
+of_head o bytes head h = elim (enough_known o (layout_of head)) [
+  | inl suits ↦ inr (no_unsuited o bytes head h suits)
+  | inr low ↦ elim (cases_lt limit head.taken) [
+    | inl far ↦ inr (λ another u. let same = ap (λ (w : WavHead). w.taken) (heads.one_head bytes head another h u.begins) in omega (arith, far, same, u.within))
+    | inr near ↦ inl (head, record { begins = h; within = near; unsuited = low })
   ]
 ]
 
-other_known : (bytes : List ℕ) → ((head : WavHead) × IsOther bytes head) ⊎ HasNoOther bytes
-other_known bytes = elim (heads_each.each bytes) [
-  | inl h ↦ of_head bytes h.0 h.1
-  | inr r ↦ inr (λ head o. heads.never_both bytes head r.0 r.1 o.begins r.2)
+unsuited_known : (o : Options) (bytes : List ℕ) → ((head : WavHead) × IsUnsuited o bytes head) ⊎ HasNoUnsuited o bytes
+unsuited_known o bytes = elim (heads_each.each bytes) [
+  | inl h ↦ of_head o bytes h.0 h.1
+  | inr r ↦ inr (λ head u. heads.never_both bytes head r.0 r.1 u.begins r.2)
 ]
 
-ends_other : (bytes : List ℕ) (head : WavHead) → EndsWithin bytes head limit → (IsMono head → ⊥) → IsOther bytes head
-ends_other bytes head w other = record { begins = w.whole.begins; within = omega (arith, w.within); other = other }
+low_by : (o : Options) (bytes : List ℕ) (head : WavHead) → IsRate o.rate → IsUnsuited o bytes head → (part : Part) × (needed : ℕ) × (room : ℕ) × IsRateTooLow o bytes part needed room
+low_by o bytes head is u =
+    let t = too_low o (layout_of head) is u.unsuited in
+    (t.0, t.1, t.2, record { head = head; begins = u.begins; within = u.within; low = t.3 })
 
-not_yet : (bytes : List ℕ) (head : WavHead) → IsOther bytes head → IsRefused bytes NotYet head.taken
-not_yet bytes head o = inl (refl, (head, o, refl))
+ends_unsuited : (o : Options) (bytes : List ℕ) (head : WavHead) → EndsWithin bytes head limit → (Suits o head → ⊥) → IsUnsuited o bytes head
+ends_unsuited o bytes head w low = record { begins = w.whole.begins; within = omega (arith, w.within); unsuited = low }
 
-pub each : (bytes : List ℕ) → ((head : WavHead) × IsInput bytes head) ⊎ (((kind : WavKind) × (place : ℕ) × IsRefused bytes kind place) ⊎ IsTooLong bytes)
-each bytes = elim (other_known bytes) [
-  | inl o ↦ inr (inl (NotYet, o.0.taken, not_yet bytes o.0 o.1))
+pub each : (o : Options) (bytes : List ℕ) → IsRate o.rate → ((head : WavHead) × IsInput o bytes head)
+    ⊎ (((kind : WavKind) × (place : ℕ) × IsRefused o bytes kind place) ⊎ (IsTooLong o bytes ⊎ ((part : Part) × (needed : ℕ) × (room : ℕ) × IsRateTooLow o bytes part needed room)))
+each o bytes is = elim (unsuited_known o bytes) [
+  | inl u ↦ inr (inr (inr (low_by o bytes u.0 is u.1)))
   | inr none ↦ elim (each_within bytes limit) [
-    | inl w ↦ elim (mono_known w.0) [
-      | inl mono ↦ inl (w.0, record { wav = w.1; mono = mono })
-      | inr other ↦ absurd (none w.0 (ends_other bytes w.0 w.1 other))
+    | inl w ↦ elim (enough_known o (layout_of w.0)) [
+      | inl suits ↦ inl (w.0, record { wav = w.1; suits = suits })
+      | inr low ↦ absurd (none w.0 (ends_unsuited o bytes w.0 w.1 low))
     ]
-    | inr (inl r) ↦ inr (inl (r.0, r.1, inr (r.2, none)))
-    | inr (inr more) ↦ inr (inr (more, none))
+    | inr (inl r) ↦ inr (inl (r.0, r.1, (r.2, none)))
+    | inr (inr more) ↦ inr (inr (inl (more, none)))
   ]
 ]
 
 -- ---- what a reader of the head was told
 
-pub head_cause : (bytes : List ℕ) (fault : WavFault) → ends.IsStopped bytes limit fault → EncodeHasCause (unread_status fault) bytes
-head_cause bytes (wav_faults.Bad kind place) r = inr ((inl r.0, inl r.1), λ head o. heads.never_both bytes head kind place o.begins r.0)
-head_cause bytes wav_faults.ReadFault r = tt
-head_cause bytes wav_faults.TooLong (more, inl r) =
-    (((more, inl (inl r)), λ head o. heads.never_both (take limit bytes) head Short limit (head_cut bytes head limit o.begins o.within) r), refl)
-head_cause bytes wav_faults.TooLong (more, inr r) =
-    (((more, inr (inl r)), λ head o. heads.never_both (take limit bytes) head NoData limit (head_cut bytes head limit o.begins o.within) r), refl)
+pub head_cause : (o : Options) (bytes : List ℕ) (fault : WavFault) → ends.IsStopped bytes limit fault → EncodeHasCause o (unread_status fault) bytes
+head_cause o bytes (wav_faults.Bad kind place) r = ((inl r.0, inl r.1), λ head u. heads.never_both bytes head kind place u.begins r.0)
+head_cause o bytes wav_faults.ReadFault r = tt
+head_cause o bytes wav_faults.TooLong (more, inl r) =
+    (((more, inl (inl r)), λ head u. heads.never_both (take limit bytes) head Short limit (head_cut bytes head limit u.begins u.within) r), refl)
+head_cause o bytes wav_faults.TooLong (more, inr r) =
+    (((more, inr (inl r)), λ head u. heads.never_both (take limit bytes) head NoData limit (head_cut bytes head limit u.begins u.within) r), refl)
 
-pub other_layout : (bytes : List ℕ) (head : WavHead) (left : Option (List ℕ)) → HeadRead bytes limit head left → (IsMono head → ⊥) → IsRefused bytes NotYet head.taken
-other_layout bytes head left h other = not_yet bytes head (record { begins = h.is; within = h.within; other = other })
+-- the encoder's fault, behind a head that was read
+pub denied_cause : (o : Options) (bytes : List ℕ) (head : WavHead) (left : Option (List ℕ)) (fault : NewFault) → HeadRead bytes limit head left → IsNewFault o (layout_of head) fault
+    → EncodeHasCause o (denied_status fault) bytes
+denied_cause o bytes head left (new_faults.RateTooLow part needed room) h f = record { head = head; begins = h.is; within = h.within; low = f }
+denied_cause o bytes head left new_faults.NoMemory h f = tt

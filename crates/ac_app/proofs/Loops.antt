@@ -1,20 +1,21 @@
 -- The loop over the frames of an input.
-use Rattle.std.proofs.Common.{◌≡◌, ℕ, ◌+◌, ◌*◌, ◌/◌, ◌<◌, ◌≤◌, Bool, true, false, List, [], drop, Option, Some, Err, refl, ap, sym, subst, ◌∙◌, arith, lit<, inr, ℤ, pos, slice_index_or}
+use Rattle.std.proofs.Common.{◌≡◌, ℕ, zero, suc, ◌+◌, ◌*◌, ◌/◌, ◌<◌, ◌≤◌, Bool, true, false, List, drop, Option, Some, Err, refl, ap, sym, subst, ◌∙◌, arith, lit≤, ℤ, pos}
 use Rattle.std.specs.Prelude.{nat_lt, ◌&&◌, if◌then◌else◌}
 use Rattle.std.proofs.lemmas.Bool.{le-ltb, ne_eqb}
 use Rattle.std.proofs.Math.Nat.{le-div_iff_mul-le, div-lt_iff_lt-mul, add-mul}
 use Rattle.std.proofs.lemmas.Nat.{mul-le}
 use Rattle.ac_enc.specs.Encoding.{Encoding}
-use Rattle.ac_enc.specs.Frame.{IsMono}
+use Rattle.ac_enc.specs.Layout.{channels_in, layout_of}
 use Rattle.ac_io.specs.Within.{IsAt}
 use Rattle.ac_wav.specs.declared.body.WavBody.{WavBody}
 use Rattle.ac_riff.specs.declared.fault.WavFault.{WavFault}
 use Rattle.ac_riff.specs.declared.fault.WavFault.TheVariants as wav
 use Rattle.ac_riff.specs.declared.head.WavHead.{WavHead}
-use Rattle.ac_riff.specs.Form.{IsHead}
+use Rattle.ac_riff.specs.Form.{IsHead, IsOfProfile}
+use Rattle.ac_base.specs.Shape.{full_of, count_of}
 use Rattle.ac_wav.specs.Body.{head_in, taken_by, IsBehind, StandsBehind}
 use Rattle.ac_riff.specs.Refusal.{HeadRead}
-use Rattle.ac_wav.specs.Samples.{align_of, value_of, offset_of, data_length, sample_count, sample_in, SamplesRead, IsUnsampled, UnsampledLeaves, FramesTaken}
+use Rattle.ac_wav.specs.Samples.{align_of, value_of, offset_of, data_length, sample_count, sample_in, RowsWithin, SamplesRead, IsUnsampled, UnsampledLeaves, FramesTaken}
 use Rattle.ac_wav.specs.Whole.{end_of, behind}
 use Rattle.ac_wav.proofs.Whole.{read_at, read_within, read_left, unsampled_refused, unsampled_needs}
 use Rattle.ac_words.specs.declared.meaning.Options.{Options}
@@ -22,26 +23,27 @@ use Rattle.ac_app.specs.declared.emit.Broken.{Broken}
 use Rattle.ac_app.specs.declared.frames.Read.{Read}
 use Rattle.ac_app.specs.declared.frames.Stop.TheVariants as stops
 use Rattle.ac_app.specs.declared.work.Work.{Work}
-use Rattle.ac_app.specs.Frames.{RoseAt, Frames, FrameLeaves, FramesLeave, IsLast, IsOwn, first_last}
-use Rattle.ac_app.specs.Input.{limit, IsBegun, place_behind}
+use Rattle.ac_app.specs.Frames.{RoseAt, Frames, FrameLeaves, FramesLeave, AreLast, AreOwn, RowsFit}
+use Rattle.ac_app.specs.Input.{limit, Suits, IsBegun, place_behind}
 use Rattle.ac_app.specs.Loop.{AllRead, StopLeaves}
 use Rattle.ac_app.specs.Run.{Encodes, Breaks}
 use Rattle.ac_app.specs.Sound.{sound_of, frame_count, frames_of}
+use Rattle.ac_app.specs.Stream.{FramesDepend}
 use Rattle.ac_app.specs.World.{Told, Sinks, World}
-use Rattle.ac_app.proofs.Inputs.{no_other}
+use Rattle.ac_app.proofs.Inputs.{no_unsuited}
 use Rattle.ac_app.proofs.Laws.{of_each, frame_of_each}
 
 -- ---- the state of the loop
 
 -- the source and the body stand behind the samples of the first i frames, and these frames were added
-pub record SoFar (o : Options) (bytes : List ℕ) (head : WavHead) (body : WavBody) (i : ℕ) (last : List ℤ) (left : Option (List ℕ)) (old new : Sinks) : Type 0 where
+pub record SoFar (o : Options) (bytes : List ℕ) (head : WavHead) (body : WavBody) (i : ℕ) (lasts : List (List ℤ)) (left : Option (List ℕ)) (old new : Sinks) : Type 0 where
   pub stands : StandsBehind bytes body (1536 * i) left
   pub some : 1536 * i ≤ sample_count head bytes
-  pub before : IsLast (sound_of head bytes) 0 i last
+  pub before : AreLast (sound_of head bytes) i lasts
   pub frames : Frames o (sound_of head bytes) i old new
 
-pub begun_by : (bytes : List ℕ) (head : WavHead) (left : Option (List ℕ)) → IsMono head → HeadRead bytes limit head left → IsBegun bytes head
-begun_by bytes head left mono h = record { begins = h.is; within = h.within; mono = mono }
+pub begun_by : (o : Options) (bytes : List ℕ) (head : WavHead) (left : Option (List ℕ)) → Suits o head → HeadRead bytes limit head left → IsBegun o bytes head
+begun_by o bytes head left suits h = record { begins = h.is; within = h.within; suits = suits }
 
 -- at the first byte of the data
 pub at_first : (bytes : List ℕ) (head : WavHead) (body : WavBody) (left : Option (List ℕ)) → head_in body ≡ head → IsBehind body 0 → HeadRead bytes limit head left → StandsBehind bytes body (1536 * 0) left
@@ -53,6 +55,27 @@ at_first bytes head body left same first h =
 pub one_further : (bytes : List ℕ) (body : WavBody) (i after : ℕ) (left : Option (List ℕ)) → IsBehind body (1536 * i + 1536) → IsAt bytes after left → after ≡ taken_by body → StandsBehind bytes body (1536 * (i + 1)) left
 one_further bytes body i after left stands at e =
     record { at = subst (λ n. IsAt bytes n left) e at; behind = subst (IsBehind body) (omega arith) stands }
+
+-- ---- channels
+
+-- a head has at most six
+count_most : (lfe : Bool) → count_of lfe ≤ 1
+count_most true = lit≤ tt
+count_most false = lit≤ tt
+
+full_most : (acmod : ℕ) → acmod ≤ 7 → full_of acmod ≤ 5
+full_most zero most = lit≤ tt
+full_most (suc zero) most = lit≤ tt
+full_most (suc (suc zero)) most = lit≤ tt
+full_most (suc (suc (suc zero))) most = lit≤ tt
+full_most (suc (suc (suc (suc zero)))) most = lit≤ tt
+full_most (suc (suc (suc (suc (suc zero))))) most = lit≤ tt
+full_most (suc (suc (suc (suc (suc (suc zero)))))) most = lit≤ tt
+full_most (suc (suc (suc (suc (suc (suc (suc zero))))))) most = lit≤ tt
+full_most (suc (suc (suc (suc (suc (suc (suc (suc n)))))))) most = absurd (omega (arith, most))
+
+pub six_most : (head : WavHead) → IsOfProfile head → channels_in (layout_of head) ≤ 6
+six_most head p = omega (arith, full_most head.acmod p.acmod_most, count_most head.lfe)
 
 -- ---- samples
 
@@ -67,41 +90,45 @@ past_end head count bytes c j late =
     ap (λ b. if nat_lt c head.channels && b then value_of head.bits (drop (offset_of head c j) bytes) else pos 0) (le-ltb j count late)
     ∙ and_no (nat_lt c head.channels) (value_of head.bits (drop (offset_of head c j) bytes))
 
--- the first row has the samples of frame i
-pub own_row : (bytes : List ℕ) (head : WavHead) (before i after n : ℕ) (rows : List (List ℤ)) (left : Option (List ℕ)) → SamplesRead bytes head before (1536 * i) after n rows left
-    → IsOwn (sound_of head bytes) 0 i (slice_index_or rows 0 [])
-own_row bytes head before i after n rows left r = r.rows_are 0 (lit< tt)
+-- the rows have the samples of frame i
+pub own_rows : (bytes : List ℕ) (head : WavHead) (before i after n : ℕ) (rows : List (List ℤ)) (left : Option (List ℕ)) → SamplesRead bytes head before (1536 * i) after n rows left
+    → channels_in (layout_of head) ≤ 6 → AreOwn (sound_of head bytes) i rows
+own_rows bytes head before i after n rows left r six c inside = r.rows_are c (omega (arith, inside, six))
+
+-- and have 24 bits
+pub rows_fit : (head : WavHead) (rows : List (List ℤ)) → channels_in (layout_of head) ≤ 6 → RowsWithin rows → RowsFit (layout_of head) rows
+rows_fit head rows six within c inside = within c (omega (arith, inside, six))
 
 -- the data ended
-pub all_read : (o : Options) (bytes : List ℕ) (head : WavHead) (before after i n : ℕ) (e : Encoding) (work : Work) (old new : World) → e.fscod ≡ head.fscod → IsHead bytes head → after ≤ limit → 1536 * i ≤ sample_count head bytes
-    → IsLast (sound_of head bytes) 0 i (first_last e) → Frames o (sound_of head bytes) i old.sinks new.sinks
+pub all_read : (o : Options) (bytes : List ℕ) (head : WavHead) (before after i n : ℕ) (e : Encoding) (work : Work) (old new : World) → e.layout ≡ layout_of head → channels_in (layout_of head) ≤ 6 → IsHead bytes head → after ≤ limit → 1536 * i ≤ sample_count head bytes
+    → AreLast (sound_of head bytes) i e.last → Frames o (sound_of head bytes) i old.sinks new.sinks
     → SamplesRead bytes head before (1536 * i) after n work.rows new.input.bytes → n < 1536 → AllRead o bytes head (record { frames = i; rest = n }) e work old new
-all_read o bytes head before after i n e work old new known h within some last frames r short =
+all_read o bytes head before after i n e work old new known six h within some last frames r short =
     let count = r.count in
     record {
       wav = read_within bytes head before (1536 * i) after n limit work.rows new.input.bytes h r short within;
       left = read_left bytes head before (1536 * i) after n work.rows new.input.bytes r short;
       ends = record {
-        fscod_is = sym known;
+        layout_is = sym known;
         count = omega (arith, count, some, short);
         silent = λ c j late. past_end head (sample_count head bytes) (drop head.taken bytes) c j late;
         last = last;
-        row = own_row bytes head before i after n work.rows new.input.bytes r;
+        rows = own_rows bytes head before i after n work.rows new.input.bytes r six;
       };
       frames = frames;
     }
 
 -- ---- why the samples weren't read
 
-pub unread : (o : Options) (bytes : List ℕ) (head : WavHead) (taken i : ℕ) (fault : WavFault) (old new : World) → IsBegun bytes head → head.taken ≤ taken → taken ≤ limit
+pub unread : FramesDepend → (o : Options) (bytes : List ℕ) (head : WavHead) (taken i : ℕ) (fault : WavFault) (old new : World) → IsBegun o bytes head → head.taken ≤ taken → taken ≤ limit
     → IsUnsampled bytes head taken limit fault → UnsampledLeaves bytes head taken limit fault new.input.bytes → FramesTaken bytes head limit i new.input.bytes
     → Frames o (sound_of head bytes) i old.sinks new.sinks → StopLeaves o (stops.Input fault) bytes old new
-unread o bytes head taken i (wav.Bad kind place) old new b least room u l t f =
-    (inr (unsampled_refused bytes head taken limit kind place b.begins u, no_other bytes head b.begins b.mono), l, record { head = head; begun = b; count = i; taken = t; added = of_each o (sound_of head bytes) i old.sinks new.sinks f })
-unread o bytes head taken i wav.ReadFault old new b least room u l t f =
-    record { head = head; begun = b; count = i; taken = t; added = of_each o (sound_of head bytes) i old.sinks new.sinks f }
-unread o bytes head taken i wav.TooLong old new b least room u l t f =
-    ((unsampled_needs bytes head taken limit b.begins least room u, no_other bytes head b.begins b.mono), l, record { head = head; begun = b; count = i; taken = t; added = of_each o (sound_of head bytes) i old.sinks new.sinks f })
+unread depends o bytes head taken i (wav.Bad kind place) old new b least room u l t f =
+    ((unsampled_refused bytes head taken limit kind place b.begins u, no_unsuited o bytes head b.begins b.suits), l, record { head = head; begun = b; count = i; taken = t; added = of_each depends o (sound_of head bytes) i old.sinks new.sinks f })
+unread depends o bytes head taken i wav.ReadFault old new b least room u l t f =
+    record { head = head; begun = b; count = i; taken = t; added = of_each depends o (sound_of head bytes) i old.sinks new.sinks f }
+unread depends o bytes head taken i wav.TooLong old new b least room u l t f =
+    ((unsampled_needs bytes head taken limit b.begins least room u, no_unsuited o bytes head b.begins b.suits), l, record { head = head; begun = b; count = i; taken = t; added = of_each depends o (sound_of head bytes) i old.sinks new.sinks f })
 
 -- ---- a write that failed
 
@@ -110,10 +137,10 @@ more_than i n some =
     let any : n ≡ 0 → ⊥ = λ none. omega (arith, none, some) in
     subst (λ (b : Bool). i < (if b then 0 else (n + 256 + 1535) / 1536)) (sym (ne_eqb n 0 any)) (omega (arith, some))
 
-pub broke : (o : Options) (bytes : List ℕ) (head : WavHead) (k : ℕ) (broken : Broken) (old new : World) (mid : Sinks) → IsBegun bytes head → RoseAt broken old.sinks new.sinks
+pub broke : FramesDepend → (o : Options) (bytes : List ℕ) (head : WavHead) (k : ℕ) (broken : Broken) (old new : World) (mid : Sinks) → IsBegun o bytes head → RoseAt broken old.sinks new.sinks
     → k < frames_of (sound_of head bytes) → new.input.bytes ≡ Some (drop (place_behind head bytes (k + 1)) bytes)
     → Frames o (sound_of head bytes) k old.sinks mid → FrameLeaves o (sound_of head bytes) k (Err broken) mid new.sinks → Breaks o bytes old new
-broke o bytes head k broken old new mid b rose fewer left f w =
+broke depends o bytes head k broken old new mid b rose fewer left f w =
     record {
       head = head;
       begun = b;
@@ -122,10 +149,10 @@ broke o bytes head k broken old new mid b rose fewer left f w =
       added = record {
         count = k;
         between = mid;
-        added = of_each o (sound_of head bytes) k old.sinks mid f;
+        added = of_each depends o (sound_of head bytes) k old.sinks mid f;
         frame = w.frame;
         line = w.line;
-        is_frame = λ s same. frame_of_each o k (sound_of head bytes) s w.frame w.line same w.is_frame;
+        is_frame = λ s same. frame_of_each depends o k (sound_of head bytes) s w.frame w.line same w.is_frame;
         emits = w.emits;
       };
       fewer = fewer;
@@ -156,28 +183,28 @@ behind_rest bytes head k left some fewer e =
     e ∙ ap (λ n. Some (drop n bytes)) same
 
 -- a full frame failed
-pub full_broke : (o : Options) (bytes : List ℕ) (head : WavHead) (k after : ℕ) (broken : Broken) (old new : World) (mid : Sinks) → IsBegun bytes head → 0 < align_of head
+pub full_broke : FramesDepend → (o : Options) (bytes : List ℕ) (head : WavHead) (k after : ℕ) (broken : Broken) (old new : World) (mid : Sinks) → IsBegun o bytes head → 0 < align_of head
     → RoseAt broken old.sinks new.sinks → 1536 * (k + 1) ≤ sample_count head bytes → after ≡ head.taken + 1536 * (k + 1) * align_of head → IsAt bytes after new.input.bytes
     → Frames o (sound_of head bytes) k old.sinks mid → FrameLeaves o (sound_of head bytes) k (Err broken) mid new.sinks → StopLeaves o (stops.Sink broken) bytes old new
-full_broke o bytes head k after broken old new mid b align rose most e at f w =
-    broke o bytes head k broken old new mid b rose (more_than k (sample_count head bytes) most) (behind_full bytes head k after new.input.bytes align most e at) f w
+full_broke depends o bytes head k after broken old new mid b align rose most e at f w =
+    broke depends o bytes head k broken old new mid b rose (more_than k (sample_count head bytes) most) (behind_full bytes head k after new.input.bytes align most e at) f w
 
 -- a frame behind the full ones failed
-pub rest_broke : (o : Options) (bytes : List ℕ) (head : WavHead) (read : Read) (e : Encoding) (work : Work) (broken : Broken) (old mid new : World) → IsBegun bytes head → 0 < align_of head
+pub rest_broke : FramesDepend → (o : Options) (bytes : List ℕ) (head : WavHead) (read : Read) (e : Encoding) (work : Work) (broken : Broken) (old mid new : World) → IsBegun o bytes head → 0 < align_of head
     → RoseAt broken old.sinks new.sinks → read.rest < 1536 → new.input ≡ mid.input → AllRead o bytes head read e work old mid
     → FramesLeave o (sound_of head bytes) read.frames (frames_of (sound_of head bytes)) (Err broken) old.sinks new.sinks → StopLeaves o (stops.Sink broken) bytes old new
-rest_broke o bytes head read e work broken old mid new b align rose few same a (k, least, below, (between, f, w)) =
+rest_broke depends o bytes head read e work broken old mid new b align rose few same a (k, least, below, (between, f, w)) =
     let count = a.ends.count in
     let left = ap (λ (t : Told). t.bytes) same ∙ a.left in
-    broke o bytes head k broken old new between b rose below (behind_rest bytes head k new.input.bytes align (omega (arith, count, few, least)) left) f w
+    broke depends o bytes head k broken old new between b rose below (behind_rest bytes head k new.input.bytes align (omega (arith, count, few, least)) left) f w
 
 -- all frames were added
-pub encodes : (o : Options) (bytes : List ℕ) (head : WavHead) (read : Read) (e : Encoding) (work : Work) (old mid new : World) → IsMono head → new.input ≡ mid.input → AllRead o bytes head read e work old mid
+pub encodes : (o : Options) (bytes : List ℕ) (head : WavHead) (read : Read) (e : Encoding) (work : Work) (old mid new : World) → Suits o head → new.input ≡ mid.input → AllRead o bytes head read e work old mid
     → Frames o (sound_of head bytes) (frames_of (sound_of head bytes)) old.sinks new.sinks → Encodes o bytes old new
-encodes o bytes head read e work old mid new mono same a f =
+encodes o bytes head read e work old mid new suits same a f =
     record {
       head = head;
-      input = record { wav = a.wav; mono = mono };
+      input = record { wav = a.wav; suits = suits };
       left = ap (λ (t : Told). t.bytes) same ∙ a.left;
       frames = f;
     }

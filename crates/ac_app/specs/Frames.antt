@@ -1,7 +1,8 @@
 -- What the frames of a sound leave in the output and the report: this project's own rules, over the sync frames of A/52 5.3.
-use Rattle.std.specs.Prelude.{◌≡◌, ℕ, ◌+◌, ◌*◌, ◌<◌, ◌≤◌, List, [], length, slice_index_or, Result, Ok, Err, ℤ}
-use Rattle.ac_base.specs.Sigma.{Lists}
+use Rattle.std.specs.Prelude.{◌≡◌, ℕ, ◌+◌, ◌*◌, ◌^◌, ◌<◌, ◌≤◌, List, [], length, slice_index_or, Result, Ok, Err, ℤ}
+use Rattle.ac_base.specs.Sigma.{Lists, Within}
 use Rattle.ac_enc.specs.Encoding.{Encoding}
+use Rattle.ac_enc.specs.Layout.{Layout, channels_in}
 use Rattle.ac_io.specs.Outside.{Rose, Adds, AddsFront}
 use Rattle.ac_words.specs.declared.meaning.Options.{Options}
 use Rattle.ac_app.specs.Sound.{Sound, Continues}
@@ -9,7 +10,6 @@ use Rattle.ac_app.specs.Stream.{places, IsFrameAt, IsStream}
 use Rattle.ac_app.specs.World.{Sinks}
 use Rattle.ac_app.specs.declared.emit.Broken.{Broken}
 use Rattle.ac_app.specs.declared.emit.Broken.TheVariants as sinks
-use Rattle.ac_app.specs.declared.work.Work.{Work}
 
 -- ---- one frame
 
@@ -34,26 +34,30 @@ pub record FrameLeaves (o : Options) (s : Sound) (i : ℕ) (result : Result (Uni
 
 -- the 256 places of channel c before those of frame i
 abbrev pub IsLast : Sound → ℕ → ℕ → List ℤ → Type 0
-IsLast s c i last = Lists 256 (places s c i) last
+IsLast s c i last = Lists 256 (places s i c) last
 
 -- the 1,536 samples of channel c in frame i
 abbrev pub IsOwn : Sound → ℕ → ℕ → List ℤ → Type 0
 IsOwn s c i row = Lists 1536 (λ t. s.sample c (1536 * i + t)) row
 
--- the samples in the first row
-abbrev pub first_row : Work → List ℤ
-first_row work = slice_index_or work.rows 0 []
+-- those of each channel
+abbrev pub AreLast : Sound → ℕ → List (List ℤ) → Type 0
+AreLast s i lasts = (c : ℕ) → c < channels_in s.layout → IsLast s c i (slice_index_or lasts c [])
 
--- the last samples of the first channel that the encoder keeps
-abbrev pub first_last : Encoding → List ℤ
-first_last e = slice_index_or e.last 0 []
+abbrev pub AreOwn : Sound → ℕ → List (List ℤ) → Type 0
+AreOwn s i rows = (c : ℕ) → c < channels_in s.layout → IsOwn s c i (slice_index_or rows c [])
 
--- an encoder of these options and this sampling code, before frame i
-pub record StandsAt (o : Options) (fscod i : ℕ) (e : Encoding) : Type 0 where
+-- the samples of each channel have 24 bits
+abbrev pub RowsFit : Layout → List (List ℤ) → Type 0
+RowsFit l rows = (c : ℕ) → c < channels_in l → Within (2 ^ 23) 1536 (slice_index_or rows c [])
+
+-- an encoder of these options and this layout, before frame i
+pub record StandsAt (o : Options) (l : Layout) (i : ℕ) (e : Encoding) : Type 0 where
   pub options : e.options ≡ o
-  pub fscod_is : e.fscod ≡ fscod
+  pub layout_is : e.layout ≡ l
   pub number : e.frames ≡ i
-  pub long : length (first_last e) ≡ 256
+  pub six : channels_in l ≤ 6
+  pub long : (c : ℕ) → c < channels_in l → length (slice_index_or e.last c []) ≡ 256
 
 -- ---- the frames
 

@@ -1,6 +1,8 @@
 -- What the loop over the frames of an input leaves, and why it stopped: this project's own rules.
 use Rattle.std.specs.Prelude.{◌≡◌, ℕ, ◌+◌, ◌*◌, ◌≤◌, List, length, Some, Result, Ok, Err, pos}
 use Rattle.ac_enc.specs.Encoding.{Encoding}
+use Rattle.ac_enc.specs.declared.fault.NewFault.{NewFault}
+use Rattle.ac_enc.specs.declared.fault.NewFault.TheVariants as new_faults
 use Rattle.ac_io.specs.Outside.{Rose}
 use Rattle.ac_io.specs.Within.{IsAt}
 use Rattle.ac_riff.specs.declared.fault.WavFault.{WavFault}
@@ -14,22 +16,23 @@ use Rattle.ac_app.specs.declared.frames.Stop.TheVariants as stops
 use Rattle.ac_app.specs.declared.status.Status.{Status}
 use Rattle.ac_app.specs.declared.status.Status.TheVariants as statuses
 use Rattle.ac_app.specs.declared.work.Work.{Work}
-use Rattle.ac_app.specs.Frames.{RoseAt, Frames, IsLast, IsOwn, first_row, first_last}
+use Rattle.ac_app.specs.Frames.{RoseAt, Frames, AreLast, AreOwn}
 use Rattle.ac_app.specs.Input.{limit, IsRefused, IsTooLong}
 use Rattle.ac_app.specs.Run.{StopsIn, Breaks}
 use Rattle.ac_app.specs.Sound.{Sound, sound_of}
 use Rattle.ac_app.specs.World.{World}
 
--- the sound ends with what was read: so many frames are full, and the samples behind them stand in the first row
+-- the sound ends with what was read: so many frames are full, and the samples behind them stand in the rows
 pub record EndsWith (s : Sound) (read : Read) (e : Encoding) (work : Work) : Type 0 where
-  pub fscod_is : s.fscod ≡ e.fscod
+  pub layout_is : s.layout ≡ e.layout
   pub count : s.count ≡ 1536 * read.frames + read.rest
   pub silent : (c j : ℕ) → s.count ≤ j → s.sample c j ≡ pos 0
-  pub last : IsLast s 0 read.frames (first_last e)
-  pub row : IsOwn s 0 read.frames (first_row work)
+  pub last : AreLast s read.frames e.last
+  pub rows : AreOwn s read.frames work.rows
 
 -- the data ended within the limit, and the full frames were added
-pub record AllRead (o : Options) (bytes : List ℕ) (head : WavHead) (read : Read) (e : Encoding) (work : Work) (old new : World) : Type 0 where
+pub record AllRead (o : Options) (bytes : List ℕ) (head : WavHead) (read : Read) (e : Encoding) (work : Work)
+    (old new : World) : Type 0 where
   pub wav : EndsWithin bytes head limit
   pub left : new.input.bytes ≡ Some (behind head bytes)
   pub ends : EndsWith (sound_of head bytes) read e work
@@ -38,9 +41,9 @@ pub record AllRead (o : Options) (bytes : List ℕ) (head : WavHead) (read : Rea
 -- why the frames stopped, and what they leave then
 abbrev pub StopLeaves : Options → Stop → List ℕ → World → World → Type 0
 StopLeaves o (stops.Input (wav.Bad kind place)) bytes old new =
-    IsRefused bytes kind place × IsAt bytes (length bytes) new.input.bytes × StopsIn o bytes old new
+    IsRefused o bytes kind place × IsAt bytes (length bytes) new.input.bytes × StopsIn o bytes old new
 StopLeaves o (stops.Input wav.ReadFault) bytes old new = StopsIn o bytes old new
-StopLeaves o (stops.Input wav.TooLong) bytes old new = IsTooLong bytes × IsAt bytes (limit + 1) new.input.bytes × StopsIn o bytes old new
+StopLeaves o (stops.Input wav.TooLong) bytes old new = IsTooLong o bytes × IsAt bytes (limit + 1) new.input.bytes × StopsIn o bytes old new
 StopLeaves o (stops.Sink broken) bytes old new = Breaks o bytes old new
 
 -- a fault of reading or of writing comes only where the count of faults rose
@@ -55,6 +58,11 @@ abbrev pub unread_status : WavFault → Status
 unread_status (wav.Bad kind place) = statuses.BadWav kind place
 unread_status wav.ReadFault = statuses.ReadFault
 unread_status wav.TooLong = statuses.TooLong limit
+
+-- the status of an encode for which there is no encoder
+abbrev pub denied_status : NewFault → Status
+denied_status (new_faults.RateTooLow part needed room) = statuses.RateTooLow part needed room
+denied_status new_faults.NoMemory = statuses.NoMemory
 
 -- the status of an encode whose frames ended so
 abbrev pub ended_status : Result (Unit {0}) Stop → Status

@@ -14,9 +14,9 @@ use Rattle.ac_words.specs.declared.meaning.Command.TheVariants.{Encode}
 use Rattle.ac_words.specs.declared.meaning.Options.{Options}
 use Rattle.ac_app.specs.declared.emit.Broken.{Broken}
 use Rattle.ac_app.specs.declared.status.Status.{Status}
-use Rattle.ac_app.specs.declared.status.Status.TheVariants.{Ok, Usage, BadWav, ReadFault, WriteFault, NoMemory, TooLong}
+use Rattle.ac_app.specs.declared.status.Status.TheVariants.{Ok, Usage, BadWav, RateTooLow, ReadFault, WriteFault, NoMemory, TooLong}
 use Rattle.ac_app.specs.Frames.{RoseAt, Frames, Added, AddedFront}
-use Rattle.ac_app.specs.Input.{limit, IsBegun, IsInput, IsRefused, IsTooLong, place_behind}
+use Rattle.ac_app.specs.Input.{limit, IsBegun, IsInput, IsRefused, IsTooLong, IsRateTooLow, place_behind}
 use Rattle.ac_app.specs.Lines.{status_line}
 use Rattle.ac_app.specs.Sound.{sound_of, frames_of}
 use Rattle.ac_app.specs.Stream.{IsStream}
@@ -29,6 +29,7 @@ abbrev pub RoseFor : Status → World → World → Type 0
 RoseFor Ok old new = Unit {0}
 RoseFor Usage old new = Unit {0}
 RoseFor (BadWav kind place) old new = Unit {0}
+RoseFor (RateTooLow part needed room) old new = Unit {0}
 RoseFor ReadFault old new = Rose old.input.faults new.input.faults
 RoseFor WriteFault old new =
     Rose old.sinks.output.faults new.sinks.output.faults ⊎ Rose old.sinks.report.faults new.sinks.report.faults
@@ -40,7 +41,7 @@ RoseFor (TooLong most) old new = Unit {0}
 -- all was done: the source lost the bytes up to the end of the data, and all frames were added
 pub record Encodes (o : Options) (bytes : List ℕ) (old new : World) : Type 0 where
   pub head : WavHead
-  pub input : IsInput bytes head
+  pub input : IsInput o bytes head
   pub left : new.input.bytes ≡ Some (behind head bytes)
   pub frames : Frames o (sound_of head bytes) (frames_of (sound_of head bytes)) old.sinks new.sinks
 
@@ -49,11 +50,18 @@ pub record StopsBefore (bytes : List ℕ) (old new : World) : Type 0 where
   pub untaken : (head : WavHead) → IsHead bytes head → TakesAtMost bytes head.taken new.input.bytes
   pub unwritten : new.sinks ≡ old.sinks
 
+-- it stopped right behind the head
+pub record StopsBehindHead (bytes : List ℕ) (old new : World) : Type 0 where
+  pub head : WavHead
+  pub begins : IsHead bytes head
+  pub stands : IsAt bytes head.taken new.input.bytes
+  pub before : StopsBefore bytes old new
+
 -- it stopped in the data: exactly the whole frames of the samples in the data bytes taken were added, as far as the source tells
 -- these; the byte behind the limit isn't counted
 pub record StopsIn (o : Options) (bytes : List ℕ) (old new : World) : Type 0 where
   pub head : WavHead
-  pub begun : IsBegun bytes head
+  pub begun : IsBegun o bytes head
   pub count : ℕ
   pub taken : FramesTaken bytes head limit count new.input.bytes
   pub added : Added o (sound_of head bytes) count old.sinks new.sinks
@@ -61,7 +69,7 @@ pub record StopsIn (o : Options) (bytes : List ℕ) (old new : World) : Type 0 w
 -- a write failed: whole frames were added, and a front of the next or of its line. No byte behind that frame's samples was taken
 pub record Breaks (o : Options) (bytes : List ℕ) (old new : World) : Type 0 where
   pub head : WavHead
-  pub begun : IsBegun bytes head
+  pub begun : IsBegun o bytes head
   pub broken : Broken
   pub rose : RoseAt broken old.sinks new.sinks
   pub added : AddedFront o (sound_of head bytes) broken old.sinks new.sinks
@@ -74,6 +82,7 @@ EncodeLeaves o Ok bytes old new = Encodes o bytes old new
 EncodeLeaves o Usage bytes old new = ⊥
 EncodeLeaves o (BadWav kind place) bytes old new =
     StopsBefore bytes old new ⊎ (IsAt bytes (length bytes) new.input.bytes × StopsIn o bytes old new)
+EncodeLeaves o (RateTooLow part needed room) bytes old new = StopsBehindHead bytes old new
 EncodeLeaves o ReadFault bytes old new = StopsBefore bytes old new ⊎ StopsIn o bytes old new
 EncodeLeaves o WriteFault bytes old new = Breaks o bytes old new
 EncodeLeaves o NoMemory bytes old new = StopsBefore bytes old new
@@ -81,14 +90,15 @@ EncodeLeaves o (TooLong most) bytes old new =
     StopsBefore bytes old new ⊎ (IsAt bytes (limit + 1) new.input.bytes × StopsIn o bytes old new)
 
 -- why encode has this answer
-abbrev pub EncodeHasCause : Status → List ℕ → Type 0
-EncodeHasCause Ok bytes = (head : WavHead) × IsInput bytes head
-EncodeHasCause Usage bytes = ⊥
-EncodeHasCause (BadWav kind place) bytes = IsRefused bytes kind place
-EncodeHasCause ReadFault bytes = Unit {0}
-EncodeHasCause WriteFault bytes = (head : WavHead) × IsBegun bytes head
-EncodeHasCause NoMemory bytes = Unit {0}
-EncodeHasCause (TooLong most) bytes = IsTooLong bytes × (most ≡ limit)
+abbrev pub EncodeHasCause : Options → Status → List ℕ → Type 0
+EncodeHasCause o Ok bytes = (head : WavHead) × IsInput o bytes head
+EncodeHasCause o Usage bytes = ⊥
+EncodeHasCause o (BadWav kind place) bytes = IsRefused o bytes kind place
+EncodeHasCause o (RateTooLow part needed room) bytes = IsRateTooLow o bytes part needed room
+EncodeHasCause o ReadFault bytes = Unit {0}
+EncodeHasCause o WriteFault bytes = (head : WavHead) × IsBegun o bytes head
+EncodeHasCause o NoMemory bytes = Unit {0}
+EncodeHasCause o (TooLong most) bytes = IsTooLong o bytes × (most ≡ limit)
 
 -- ---- all commands
 
@@ -100,7 +110,7 @@ abbrev pub CommandLeaves : Command → Status → List ℕ → World → World �
 CommandLeaves (Encode o) status bytes old new = EncodeLeaves o status bytes old new
 
 abbrev pub CommandHasCause : Command → Status → List ℕ → Type 0
-CommandHasCause (Encode o) status bytes = EncodeHasCause status bytes
+CommandHasCause (Encode o) status bytes = EncodeHasCause o status bytes
 
 -- ---- the job
 
@@ -121,6 +131,7 @@ abbrev pub JobLeaves : List Text → Status → List ℕ → World → World →
 JobLeaves ws Ok bytes old new = WordsLeave ws Ok bytes old new
 JobLeaves ws Usage bytes old new = new ≡ old
 JobLeaves ws (BadWav kind place) bytes old new = WordsLeave ws (BadWav kind place) bytes old new
+JobLeaves ws (RateTooLow part needed room) bytes old new = WordsLeave ws (RateTooLow part needed room) bytes old new
 JobLeaves ws ReadFault bytes old new = WordsLeave ws ReadFault bytes old new
 JobLeaves ws WriteFault bytes old new = WordsLeave ws WriteFault bytes old new
 JobLeaves ws NoMemory bytes old new = StopsBefore bytes old new
@@ -131,6 +142,7 @@ abbrev pub HasCause : List Text → Status → List ℕ → Type 0
 HasCause ws Ok bytes = WordsHaveCause ws Ok bytes
 HasCause ws Usage bytes = InGrammar ws → ⊥
 HasCause ws (BadWav kind place) bytes = WordsHaveCause ws (BadWav kind place) bytes
+HasCause ws (RateTooLow part needed room) bytes = WordsHaveCause ws (RateTooLow part needed room) bytes
 HasCause ws ReadFault bytes = WordsHaveCause ws ReadFault bytes
 HasCause ws WriteFault bytes = WordsHaveCause ws WriteFault bytes
 HasCause ws NoMemory bytes = Unit {0}
@@ -160,7 +172,7 @@ pub record RunLeaves (ws : List Text) (result : Status) (bytes : List ℕ) (old 
 -- all is done that encode was asked for: the frames of the sound, their lines, and the status line
 pub record IsEncoded (o : Options) (bytes : List ℕ) (old new : World) : Type 0 where
   pub head : WavHead
-  pub input : IsInput bytes head
+  pub input : IsInput o bytes head
   pub left : new.input.bytes ≡ Some (behind head bytes)
   pub stream : List ℕ
   pub lines : List ℕ

@@ -1,32 +1,27 @@
 -- The sound of up to six channels, and the places of it that are transformed.
-use Rattle.std.specs.Prelude.{◌≡◌, ℕ, ◌+◌, ◌-◌, ◌/◌, ◌<◌, ◌==◌, nat_lt, if◌then◌else◌, Bool, List, ℤ, pos}
+use Rattle.std.specs.Prelude.{◌≡◌, ℕ, ◌+◌, ◌-◌, ◌/◌, ◌<◌, ◌==◌, nat_lt, if◌then◌else◌, List, ℤ, pos}
+use Rattle.ac_enc.specs.Layout.{Layout, layout_of}
 use Rattle.ac_riff.specs.declared.head.WavHead.{WavHead}
 use Rattle.ac_wav.specs.Samples.{sample_count, sample_at}
 
--- fscod of its sampling rate (A/52 5.4.1.3), its layout (A/52 5.4.2.3 and 5.4.2.7), its number of samples of each channel, and
--- sample j of coded channel c, of 24 bits and 0 behind the last
+-- its sampling rate and its channels, its number of samples of each channel, and sample j of channel c in coding order, of 24 bits
+-- and 0 behind the last
 pub record Sound : Type 0 where
-  pub fscod : ℕ
-  pub acmod : ℕ
-  pub lfe : Bool
+  pub layout : Layout
   pub count : ℕ
   pub sample : ℕ → ℕ → ℤ
 
 -- that of a WAV with this head
 abbrev pub sound_of : WavHead → List ℕ → Sound
 sound_of head bytes = record {
-  fscod = head.fscod;
-  acmod = head.acmod;
-  lfe = head.lfe;
+  layout = layout_of head;
   count = sample_count head bytes;
   sample = sample_at head bytes;
 }
 
 -- the other sound has the rate and the layout of this, and its first n samples of each channel
 pub record Continues (x : Sound) (n : ℕ) (y : Sound) : Type 0 where
-  pub fscod : y.fscod ≡ x.fscod
-  pub acmod : y.acmod ≡ x.acmod
-  pub lfe : y.lfe ≡ x.lfe
+  pub layout : y.layout ≡ x.layout
   pub samples : (c j : ℕ) → j < n → y.sample c j ≡ x.sample c j
 
 -- place p of channel c that is transformed: 256 zeros, this project's own choice, and then the samples

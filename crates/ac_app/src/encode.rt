@@ -1,29 +1,21 @@
 //! The command encode.
-ghost use Rattle.std.specs.Prelude.{◌≡◌, ◌≢◌, ℕ, ◌+◌, ◌≤◌, true, List, Some};
-ghost use Rattle.ac_enc.specs.Frame.{IsMono};
+ghost use Rattle.std.specs.Prelude.{◌≡◌, ◌≢◌, ℕ, ◌+◌, List, Some};
 ghost use Rattle.ac_io.specs.Within.{TakesAtMost};
 ghost use Rattle.ac_words.specs.Lawful.{AreOptions};
 ghost use Rattle.ac_app.specs.Input.{limit};
 ghost use Rattle.ac_app.specs.Run.{EncodeLeaves, EncodeHasCause, RoseFor};
-ghost use Rattle.ac_app.specs.Loop.{unread_status, ended_status};
+ghost use Rattle.ac_app.specs.Loop.{unread_status, denied_status, ended_status};
 ghost use Rattle.ac_app.specs.World.{world, NeverFalls};
-ghost use Rattle.ac_app.specs.declared.status.Status.TheVariants.{Ok, Usage, ReadFault, WriteFault, NoMemory};
+ghost use Rattle.ac_app.specs.declared.status.Status.TheVariants.{Ok, Usage, RateTooLow, ReadFault, WriteFault, NoMemory};
 
 use crate::frames::{LIMIT, Stop, frames};
 use crate::status::Status;
 use crate::work::open;
-use ac_enc::Encoder;
+use ac_enc::{Encoder, NewFault};
 use ac_io::{Sink, Source};
-use ac_wav::{WavFault, WavHead, WavKind};
+use ac_wav::{WavFault, WavHead};
 use ac_words::Options;
 use std::alloc::Global;
-
-/// Whether the head has the layout that is encoded.
-fn is_mono(head: &WavHead) -> bool
-    ensures { (result ≡ true → IsMono head.now) × (IsMono head.now → result ≡ true) }
-{
-    head.acmod == 1 && !head.lfe
-}
 
 /// The status of an input that wasn't read.
 fn unread(fault: WavFault) -> Status
@@ -33,6 +25,16 @@ fn unread(fault: WavFault) -> Status
         WavFault::Bad(kind, place) => Status::BadWav(kind, place),
         WavFault::ReadFault => Status::ReadFault,
         WavFault::TooLong => Status::TooLong { limit: LIMIT },
+    }
+}
+
+/// The status of an encode for which there is no encoder.
+fn denied(fault: NewFault) -> Status
+    ensures { result ≡ denied_status fault }
+{
+    match fault {
+        NewFault::RateTooLow { part, needed, room } => Status::RateTooLow { part, needed, room },
+        NewFault::NoMemory => Status::NoMemory,
     }
 }
 
@@ -47,7 +49,7 @@ fn ended(end: Result<(), Stop>) -> Status
     }
 }
 
-/// Encodes a mono WAV, frame by frame.
+/// Encodes a WAV, frame by frame.
 pub fn encode<S: Source, O: Sink, N: Sink>(
     alloc: Global,
     options: Options,
@@ -59,7 +61,7 @@ pub fn encode<S: Source, O: Sink, N: Sink>(
     ensures told { (bytes : List ℕ) → S.left input.old ≡ Some bytes → EncodeLeaves options result bytes
         (world S.left S.faults O.held O.faults N.held N.faults input.old output.old report.old)
         (world S.left S.faults O.held O.faults N.held N.faults input.new output.new report.new) }
-    ensures cause { (bytes : List ℕ) → S.left input.old ≡ Some bytes → EncodeHasCause result bytes }
+    ensures cause { (bytes : List ℕ) → S.left input.old ≡ Some bytes → EncodeHasCause options result bytes }
     ensures not_usage { result ≢ Status.Usage }
     ensures kept { result ≡ Status.NoMemory → (output.new ≡ output.old) × (report.new ≡ report.old) }
     ensures most_read { (bytes : List ℕ) → S.left input.old ≡ Some bytes → TakesAtMost bytes (limit + 1) (S.left input.new) }
@@ -74,13 +76,11 @@ pub fn encode<S: Source, O: Sink, N: Sink>(
         Ok(head) => head,
         Err(fault) => return unread(fault),
     };
-    if !is_mono(&head) {
-        return Status::BadWav(WavKind::NotYet, head.taken);
-    }
-    let Ok(mut work) = open(alloc) else {
-        return Status::NoMemory;
+    let mut encoder = match Encoder::new(alloc, options, &head) {
+        Ok(encoder) => encoder,
+        Err(fault) => return denied(fault),
     };
-    let Ok(mut encoder) = Encoder::new(alloc, options, &head) else {
+    let Ok(mut work) = open(alloc) else {
         return Status::NoMemory;
     };
     let end = frames(&head, &mut encoder, &mut work, input, output, report);

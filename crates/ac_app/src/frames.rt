@@ -1,13 +1,12 @@
 //! The loop over the frames: each frame's samples are read, and it is written and reported before the next is read.
-ghost use Rattle.std.specs.Prelude.{◌≡◌, ℕ, ◌+◌, ◌*◌, ◌^◌, ◌<◌, ◌≤◌, List, length, Some, IfOk, IfErr, MatchResult};
-ghost use Rattle.ac_base.specs.Sigma.{Within};
+ghost use Rattle.std.specs.Prelude.{◌≡◌, ℕ, ◌+◌, ◌*◌, ◌^◌, ◌<◌, ◌≤◌, List, IfOk, IfErr, MatchResult};
 ghost use Rattle.ac_enc.specs.Encoding.{at_first};
-ghost use Rattle.ac_enc.specs.Frame.{IsMono};
+ghost use Rattle.ac_enc.specs.Layout.{layout_of};
 ghost use Rattle.ac_riff.specs.Form.{IsOfProfile};
 ghost use Rattle.ac_io.specs.Within.{TakesAtMost};
 ghost use Rattle.ac_riff.specs.Refusal.{HeadRead};
-ghost use Rattle.ac_app.specs.Frames.{RoseAt, Frames, FramesLeave, first_row, first_last, StandsAt};
-ghost use Rattle.ac_app.specs.Input.{limit};
+ghost use Rattle.ac_app.specs.Frames.{RoseAt, Frames, FramesLeave, RowsFit, StandsAt};
+ghost use Rattle.ac_app.specs.Input.{limit, Suits};
 ghost use Rattle.ac_app.specs.Loop.{EndsWith, AllRead, StopLeaves, StopRose};
 ghost use Rattle.ac_app.specs.Run.{Encodes};
 ghost use Rattle.ac_app.specs.Sound.{Sound, frame_count, frames_of};
@@ -15,6 +14,7 @@ ghost use Rattle.ac_app.specs.World.{Sinks, sinks, SinksNeverFall, world, NeverF
 
 use crate::emit::Broken;
 use crate::frame::frame;
+use crate::known::depends;
 use crate::work::{Work, clear};
 use ac_enc::Encoder;
 use ac_io::{Sink, Source};
@@ -70,9 +70,9 @@ fn full_frames<S: Source, O: Sink, N: Sink>(
     report: &mut N,
 ) -> Result<Read, Stop>
     requires profile { IsOfProfile head.now }
-    requires mono { IsMono head.now }
+    requires suits { Suits encoder.old.options head.now }
     requires within { head.now.taken ≤ limit }
-    requires first { encoder.old ≡ at_first encoder.old.options head.now.fscod }
+    requires first { encoder.old ≡ at_first encoder.old.options (layout_of head.now) }
     ensures told { (bytes : List ℕ) → HeadRead bytes limit head.now (S.left input.old) → MatchResult result
         (λ read. AllRead encoder.old.options bytes head.now read encoder.new work.new
         (world S.left S.faults O.held O.faults N.held N.faults input.old output.old report.old)
@@ -81,8 +81,8 @@ fn full_frames<S: Source, O: Sink, N: Sink>(
         (world S.left S.faults O.held O.faults N.held N.faults input.old output.old report.old)
         (world S.left S.faults O.held O.faults N.held N.faults input.new output.new report.new)) }
     ensures count { IfOk result (λ read. (read.frames < 2 ^ 31) × (read.rest < 1536)) }
-    ensures row { IfOk result (λ _. Within (2 ^ 23) 1536 (first_row work.new)) }
-    ensures next { IfOk result (λ read. StandsAt encoder.old.options head.now.fscod read.frames encoder.new) }
+    ensures rows { IfOk result (λ _. RowsFit (layout_of head.now) work.new.rows) }
+    ensures next { IfOk result (λ read. StandsAt encoder.old.options (layout_of head.now) read.frames encoder.new) }
     ensures most_read { (bytes : List ℕ) → HeadRead bytes limit head.now (S.left input.old)
         → TakesAtMost bytes (limit + 1) (S.left input.new) }
     ensures rose { IfErr result (λ stop. StopRose stop
@@ -92,6 +92,7 @@ fn full_frames<S: Source, O: Sink, N: Sink>(
         (world S.left S.faults O.held O.faults N.held N.faults input.old output.old report.old)
         (world S.left S.faults O.held O.faults N.held N.faults input.new output.new report.new) }
 {
+    depends();
     let mut body = WavBody::new(head, LIMIT);
     let mut frames = 0;
     loop {
@@ -127,9 +128,8 @@ fn last_frames<O: Sink, N: Sink>(
 ) -> Result<(), Broken>
     requires frames { read.frames < 2 ^ 31 }
     requires rest { read.rest < 1536 }
-    requires number { encoder.old.frames ≡ read.frames }
-    requires long { length (first_last encoder.old) ≡ 256 }
-    requires row { Within (2 ^ 23) 1536 (first_row work.old) }
+    requires stands { StandsAt encoder.old.options encoder.old.layout read.frames encoder.old }
+    requires rows { RowsFit encoder.old.layout work.old.rows }
     ensures told { (s : Sound) (start : Sinks) → EndsWith s read encoder.old work.old
         → Frames encoder.old.options s read.frames start (sinks O.held O.faults N.held N.faults output.old report.old)
         → FramesLeave encoder.old.options s read.frames (frames_of s) result start
@@ -161,9 +161,9 @@ pub fn frames<S: Source, O: Sink, N: Sink>(
     report: &mut N,
 ) -> Result<(), Stop>
     requires profile { IsOfProfile head.now }
-    requires mono { IsMono head.now }
+    requires suits { Suits encoder.old.options head.now }
     requires within { head.now.taken ≤ limit }
-    requires first { encoder.old ≡ at_first encoder.old.options head.now.fscod }
+    requires first { encoder.old ≡ at_first encoder.old.options (layout_of head.now) }
     ensures told { (bytes : List ℕ) → HeadRead bytes limit head.now (S.left input.old) → MatchResult result
         (λ _. Encodes encoder.old.options bytes
         (world S.left S.faults O.held O.faults N.held N.faults input.old output.old report.old)
@@ -180,6 +180,7 @@ pub fn frames<S: Source, O: Sink, N: Sink>(
         (world S.left S.faults O.held O.faults N.held N.faults input.old output.old report.old)
         (world S.left S.faults O.held O.faults N.held N.faults input.new output.new report.new) }
 {
+    depends();
     let read = full_frames(head, encoder, work, input, output, report)?;
     last_frames(read, encoder, work, output, report)?;
     Ok(())

@@ -5,12 +5,14 @@ mod emit;
 mod encode;
 mod frame;
 mod frames;
+mod known;
 mod law;
 mod lines;
 mod status;
 mod top;
 mod work;
 
+pub use ac_base::Part;
 pub use ac_io::{
     Failed, MemSink, MemSource, NullSink, Sink, Source, StdSink, StdSource, SureSource,
 };

@@ -1,9 +1,10 @@
 //! The lines of the report.
 ghost use Rattle.std.specs.Prelude.{◌≡◌, ℕ, ◌+◌, ◌≤◌, ◌<◌, ◌++◌, length, codes, decimal};
 ghost use Rattle.arrayvec.specs.ArrayString.{array_string_len};
-ghost use Rattle.ac_app.specs.Lines.{mark_words, frame_line, status_line, kind_word};
+ghost use Rattle.ac_app.specs.Lines.{mark_words, frame_line, status_line, kind_word, part_word};
 
 use crate::status::Status;
+use ac_base::Part;
 use ac_plan::{Mark, Plan};
 use ac_wav::WavKind;
 use arrayvec::ArrayString;
@@ -64,7 +65,6 @@ fn word_of(kind: WavKind) -> &'static str
         WavKind::NoData => "nodata ",
         WavKind::BadFmt(_) => "badfmt ",
         WavKind::Unsupported(_, _) => "unsupported ",
-        WavKind::NotYet => "notyet ",
     }
 }
 
@@ -75,6 +75,29 @@ fn refusal(kind: WavKind, place: u64) -> Line
     line.push_str("status 2 bad wav ");
     line.push_str(word_of(kind));
     push_number(&mut line, place);
+    line.push_str("\n");
+    line
+}
+
+fn part_name(part: Part) -> &'static str
+    ensures value { result.now ≡ part_word part }
+{
+    match part {
+        Part::Front => "front ",
+        Part::Total => "total ",
+        Part::Last => "last ",
+    }
+}
+
+fn rate_too_low(part: Part, needed: u32, room: u32) -> Line
+    ensures { result.bytes ≡ status_line (Status.RateTooLow part needed room) }
+{
+    let mut line = Line::new();
+    line.push_str("status 3 rate too low ");
+    line.push_str(part_name(part));
+    push_number(&mut line, u64::from(needed));
+    line.push_str(" ");
+    push_number(&mut line, u64::from(room));
     line.push_str("\n");
     line
 }
@@ -106,6 +129,7 @@ pub fn status(status: Status) -> Line
         Status::Ok => fixed("status 0 ok\n"),
         Status::Usage => fixed("status 1 usage\n"),
         Status::BadWav(kind, place) => refusal(kind, place),
+        Status::RateTooLow { part, needed, room } => rate_too_low(part, needed, room),
         Status::ReadFault => fixed("status 6 read fault\n"),
         Status::WriteFault => fixed("status 7 write fault\n"),
         Status::NoMemory => fixed("status 9 no memory\n"),

@@ -2,6 +2,7 @@
 ghost use Rattle.std.specs.Prelude.{◌≡◌};
 ghost use Rattle.ac_app.specs.Lines.{code_of};
 
+use ac_base::Part;
 use ac_wav::WavKind;
 
 /// How a command ended.
@@ -13,6 +14,9 @@ pub enum Status {
     Usage,
     /// The input is refused, for this reason and at this place in bytes from its start.
     BadWav(WavKind, u64),
+    /// The rate is too low for the layout of the input: this part of the cheapest frame has `needed` bits, and there is room for
+    /// `room` of them.
+    RateTooLow { part: Part, needed: u32, room: u32 },
     /// The input failed.
     ReadFault,
     /// The output or the report failed.
@@ -32,6 +36,7 @@ impl Status {
             Status::Ok => 0,
             Status::Usage => 1,
             Status::BadWav(_, _) => 2,
+            Status::RateTooLow { .. } => 3,
             Status::ReadFault => 6,
             Status::WriteFault => 7,
             Status::NoMemory => 9,

@@ -1,5 +1,5 @@
 //! The worked examples of the top call, over a source and sinks in memory.
-use crate::{MemSink, MemSource, Status, run};
+use crate::{MemSink, MemSource, Sink, Status, run};
 use std::alloc::{AllocError, Global};
 use std::test::Fail;
 
@@ -110,6 +110,17 @@ fn sink(alloc: Global, failing: &[u64]) -> Result<MemSink, AllocError> {
     Ok(MemSink::new(Vec::new(alloc), Vec::from_slice(alloc, failing)?))
 }
 
+/// A run, of which its answer alone is known.
+fn answer<O: Sink, N: Sink>(
+    alloc: Global,
+    words: &[String],
+    input: &mut MemSource,
+    output: &mut O,
+    report: &mut N,
+) -> Status {
+    run(alloc, words, input, output, report)
+}
+
 fn once(
     alloc: Global,
     words: &[String],
@@ -119,7 +130,7 @@ fn once(
     let mut input = source(alloc, bytes, failing.input)?;
     let mut output = sink(alloc, failing.output)?;
     let mut report = sink(alloc, failing.report)?;
-    let status = run(alloc, words, &mut input, &mut output, &mut report);
+    let status = answer(alloc, words, &mut input, &mut output, &mut report);
     Ok(Left {
         status,
         output,
@@ -212,4 +223,5 @@ fn plain(rt: HostRuntime) -> Result<Vec<u8>, Fail> {
 
 mod faults;
 mod heads;
+mod layouts;
 mod sounds;

@@ -1,16 +1,17 @@
 //! The top call.
 ghost use Rattle.std.specs.Prelude.{◌≡◌, ◌≢◌, ℕ, ◌+◌, ◌≤◌, List, Some, map, string_bytes};
+ghost use Rattle.ac_base.specs.declared.sizes.Part.{Part};
 ghost use Rattle.ac_io.specs.Within.{TakesAtMost};
 ghost use Rattle.ac_riff.specs.declared.fault.WavKind.{WavKind};
 ghost use Rattle.ac_riff.specs.declared.head.WavHead.{WavHead};
 ghost use Rattle.ac_words.specs.Grammar.{InGrammar};
 ghost use Rattle.ac_words.specs.declared.meaning.Options.{Options};
-ghost use Rattle.ac_app.specs.Input.{limit, IsInput, IsRefused, IsTooLong};
+ghost use Rattle.ac_app.specs.Input.{limit, IsInput, IsRefused, IsTooLong, IsRateTooLow};
 ghost use Rattle.ac_app.specs.Lines.{status_line};
 ghost use Rattle.ac_app.specs.Run.{RoseFor, IsLawful, CommandLeaves, CommandHasCause, JobLeaves, HasCause, AsksEncode};
 ghost use Rattle.ac_app.specs.Run.{Tail, answer_of, RunLeaves, IsDone};
 ghost use Rattle.ac_app.specs.World.{told, world, NeverFalls};
-ghost use Rattle.ac_app.specs.declared.status.Status.TheVariants.{Ok, Usage, BadWav, ReadFault, WriteFault, NoMemory, TooLong};
+ghost use Rattle.ac_app.specs.declared.status.Status.TheVariants.{Ok, Usage, BadWav, RateTooLow, ReadFault, WriteFault, NoMemory, TooLong};
 
 use crate::encode::encode;
 use crate::lines;
@@ -137,15 +138,19 @@ pub fn run<S: Source, O: Sink, N: Sink>(
     ensures kept { result ≡ Status.NoMemory → output.new ≡ output.old }
     // A refusal of the bytes comes where they ask for it, unless something failed first.
     ensures refused { (bytes : List ℕ) (o : Options) (kind : WavKind) (place : ℕ) → S.left input.old ≡ Some bytes
-        → AsksEncode (map string_bytes words.now) o → IsRefused bytes kind place → result ≢ Status.ReadFault → result ≢ Status.WriteFault
+        → AsksEncode (map string_bytes words.now) o → IsRefused o bytes kind place → result ≢ Status.ReadFault → result ≢ Status.WriteFault
         → result ≢ Status.NoMemory → result ≡ Status.BadWav kind place }
+    // A rate that is too low is refused where the head asks for more, behind it.
+    ensures too_low { (bytes : List ℕ) (o : Options) (part : Part) (needed room : ℕ) → S.left input.old ≡ Some bytes
+        → AsksEncode (map string_bytes words.now) o → IsRateTooLow o bytes part needed room → result ≢ Status.ReadFault
+        → result ≢ Status.WriteFault → result ≢ Status.NoMemory → result ≡ Status.RateTooLow part needed room }
     // The byte behind the limit is refused where it is needed and there.
     ensures too_long { (bytes : List ℕ) (o : Options) → S.left input.old ≡ Some bytes
-        → AsksEncode (map string_bytes words.now) o → IsTooLong bytes → result ≢ Status.ReadFault → result ≢ Status.WriteFault
+        → AsksEncode (map string_bytes words.now) o → IsTooLong o bytes → result ≢ Status.ReadFault → result ≢ Status.WriteFault
         → result ≢ Status.NoMemory → result ≡ Status.TooLong limit }
-    // A mono WAV within the limit is encoded, unless something failed.
+    // A WAV within the limit that the rate is enough for is encoded, unless something failed.
     ensures complete { (bytes : List ℕ) (o : Options) (head : WavHead) → S.left input.old ≡ Some bytes
-        → AsksEncode (map string_bytes words.now) o → IsInput bytes head → result ≢ Status.ReadFault → result ≢ Status.WriteFault
+        → AsksEncode (map string_bytes words.now) o → IsInput o bytes head → result ≢ Status.ReadFault → result ≢ Status.WriteFault
         → result ≢ Status.NoMemory → result ≡ Status.Ok }
     // A fault of reading or of writing comes only where a count of faults rose.
     ensures rose { RoseFor result

@@ -1,6 +1,5 @@
 //! The arrays that encode works in.
 ghost use Rattle.std.specs.Prelude.{◌≡◌, replicate, pos};
-ghost use Rattle.ac_app.specs.Frames.{first_row};
 
 use ac_bits::FRAME_BYTES;
 use std::alloc::{AllocError, Global};
@@ -8,7 +7,7 @@ use std::alloc::{AllocError, Global};
 /// The arrays that encode works in.
 #[derive(Clone, Copy)]
 pub struct Work {
-    /// The samples of a frame, by coded channels.
+    /// The samples of a frame, by channel in coding order.
     pub rows: [[i32; 1536]; 6],
     /// The bytes of a frame.
     pub bytes: [u8; FRAME_BYTES],
@@ -28,16 +27,9 @@ pub fn open(alloc: Global) -> Result<Box<Work>, AllocError> {
     }
 }
 
-/// Sets a row to 0.
-fn silence(row: &mut [i32; 1536])
-    ensures { row.new ≡ replicate 1536 (pos 0) }
-{
-    *row = [0; 1536];
-}
-
-/// Sets the first row to 0.
+/// Sets all rows to 0.
 pub fn clear(work: &mut Work)
-    ensures { first_row work.new ≡ replicate 1536 (pos 0) }
+    ensures { work.new.rows ≡ replicate 6 (replicate 1536 (pos 0)) }
 {
-    silence(&mut work.rows[0]);
+    work.rows = [[0; 1536]; 6];
 }

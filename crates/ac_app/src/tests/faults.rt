@@ -3,7 +3,7 @@ use super::{
     EMPTY, Failing, Left, NONE, encoded, front, head_of, left_by, plain, refuses, reports, silence,
     words, zeros,
 };
-use crate::{Status, WavKind};
+use crate::{Part, Status, WavKind};
 use std::test::Fail;
 
 #[test]
@@ -261,12 +261,20 @@ fn each_line_fails_in_turn(rt: HostRuntime) -> Result<(), Fail> {
     Ok(())
 }
 
+/// The answer where the last part of a frame is too large.
+const LOW: Status = Status::RateTooLow {
+    part: Part::Last,
+    needed: 2,
+    room: 1,
+};
+
 #[test]
 fn codes(rt: HostRuntime) {
     for (status, code) in [
         (Status::Ok, 0),
         (Status::Usage, 1),
         (Status::BadWav(WavKind::Short, 1), 2),
+        (LOW, 3),
         (Status::ReadFault, 6),
         (Status::WriteFault, 7),
         (Status::NoMemory, 9),

@@ -1,6 +1,6 @@
 //! Heads that are cut or contradict themselves.
 use super::{EMPTY, NONE, WIDE, encoded, front, head_of, left_by, refuses, words, write, zeros};
-use crate::{Field, Status, WavKind, input_law};
+use crate::{Field, Status, WavKind};
 use std::alloc::{AllocError, Global};
 use std::test::Fail;
 
@@ -14,26 +14,6 @@ fn short_head(rt: HostRuntime) -> Result<(), Fail> {
             "status 2 bad wav short 30\n"
         )
     );
-    Ok(())
-}
-
-// A layout that isn't encoded yet is refused behind its head, before its data are looked at.
-#[test]
-fn stereo_not_yet(rt: HostRuntime) -> Result<(), Fail> {
-    input_law();
-    let mut head = EMPTY;
-    write(&mut head, 22, &[2]);
-    write(&mut head, 32, &[4]);
-    for bytes in [head.as_slice(), &zeros(rt, &head, 9)?] {
-        let left = encoded(rt, bytes)?;
-        assert!(rt;
-            refuses(
-                &left,
-                Status::BadWav(WavKind::NotYet, 44),
-                "status 2 bad wav notyet 44\n"
-            )
-        );
-    }
     Ok(())
 }
 

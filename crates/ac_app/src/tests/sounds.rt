@@ -1,9 +1,9 @@
 //! Sounds, their frames and the lines of these.
 use super::{
-    EMPTY, Left, NONE, WIDE, encoded, head_of, is_starved, left_by, may_leave, plain, refuses,
-    reports, sample, silence, sink, source, spoken, words, write,
+    EMPTY, Left, NONE, WIDE, answer, encoded, head_of, is_starved, left_by, may_leave, plain,
+    refuses, reports, sample, silence, sink, source, spoken, words, write,
 };
-use crate::{NullSink, Status, run, run_law, stream_law};
+use crate::{NullSink, Status};
 use std::alloc::{AllocError, Global};
 use std::test::Fail;
 
@@ -16,7 +16,6 @@ fn empty_mono(rt: HostRuntime) -> Result<(), Fail> {
 
 #[test]
 fn frame_count(rt: HostRuntime) -> Result<(), Fail> {
-    stream_law();
     let one = encoded(rt, &silence(rt, 1280)?)?;
     assert_eq!(rt; one.status, Status::Ok);
     assert_eq!(rt; one.output.bytes().len(), 768);
@@ -47,7 +46,6 @@ fn square_bytes(rt: HostRuntime) -> Result<Vec<u8>, Fail> {
 // Two frames of a sound: bytes 4 to 7 of each are the head's.
 #[test]
 fn mono_header_bytes(rt: HostRuntime) -> Result<(), Fail> {
-    run_law();
     let bytes = square_bytes(rt)?;
     let left = encoded(rt, &bytes)?;
     assert_eq!(rt; left.output.bytes().len(), 1536);
@@ -161,7 +159,7 @@ fn without_report(alloc: Global, words: &[String], bytes: &[u8]) -> Result<Left,
     let mut input = source(alloc, bytes, &[])?;
     let mut output = sink(alloc, &[])?;
     let report = sink(alloc, &[])?;
-    let status = run(alloc, words, &mut input, &mut output, &mut NullSink);
+    let status = answer(alloc, words, &mut input, &mut output, &mut NullSink);
     Ok(Left {
         status,
         output,
@@ -175,7 +173,7 @@ fn without_output(alloc: Global, words: &[String], bytes: &[u8]) -> Result<Left,
     let mut input = source(alloc, bytes, &[])?;
     let output = sink(alloc, &[])?;
     let mut report = sink(alloc, &[])?;
-    let status = run(alloc, words, &mut input, &mut NullSink, &mut report);
+    let status = answer(alloc, words, &mut input, &mut NullSink, &mut report);
     Ok(Left {
         status,
         output,

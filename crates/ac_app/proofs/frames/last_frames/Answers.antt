@@ -1,15 +1,15 @@
-use Rattle.std.proofs.Common.{◌≡◌, ◌+◌, ◌*◌, ◌≤◌, arith, refl, sym, ap, ◌∙◌}
+use Rattle.std.proofs.Common.{◌≡◌, ◌+◌, ◌*◌, ◌≤◌, arith, sym, ap, ◌∙◌}
 use Rattle.std.proofs.lemmas.Result.{err_from_is_err_and}
 use Rattle.ac_app.specs.Sound.{frame_count}
-use Rattle.ac_app.proofs.Places.{enough, behind_last, zeros_within, one_more, so_many, stopped, stands_by, leaves_by}
+use Rattle.ac_app.proofs.Places.{enough, all_behind, six_by, zeros_fit, stands_own, rows_by, one_more, so_many, stopped, stands_by, leaves_by}
 use Rattle.ac_app.proofs.Faults.{sink_behind}
 use Rattle.ac_app.proofs.frames.last_frames.Goals as goal
 
 pub loop-i-init : goal.loop-i-init
 loop-i-init g c = record {
-  told = λ s start ends frames. (frames, ends.last, ends.row);
-  next = record { options = refl; fscod_is = refl; number = c.requires.number; long = c.requires.long };
-  row = c.requires.row;
+  told = λ s start ends frames. (frames, ends.last, ends.rows);
+  next = c.requires.stands;
+  rows = c.requires.rows;
   never_falls = (omega arith, omega arith);
 }
 
@@ -17,7 +17,7 @@ pub returns-in_err-frame-clause-told : goal.returns-in_err-frame-clause-told
 returns-in_err-frame-clause-told g c = λ s start ends frames.
     let i = c.loop-i.invariant.told s start ends frames in
     let next = c.loop-i.invariant.next in
-    let here = c.in_err-frame.ensures.told s (ends.fscod_is ∙ sym next.fscod_is) i.1 i.2 in
+    let here = c.in_err-frame.ensures.told s (ends.layout_is ∙ sym next.layout_is) i.1 i.2 in
     let leaves = leaves_by _ _ _ _ _ _ _ next.options here.0 in
     let count : c.frames_for-count.result ≡ frame_count s.count = c.frames_for-count.ensures ∙ ap frame_count (sym (ends.count ∙ ap (λ n. 1536 * n + c.args.read.rest) (sym c.from.ensures))) in
     let p = err_from_is_err_and c.from_residual.result c.from_residual.ensures.1 in
@@ -38,16 +38,16 @@ loop-i-preserved g c = record {
   told = λ s start ends frames.
       let i = c.loop-i.invariant.told s start ends frames in
       let next = c.loop-i.invariant.next in
-      let here = c.in_ok-frame.ensures.told s (ends.fscod_is ∙ sym next.fscod_is) i.1 i.2 in
+      let here = c.in_ok-frame.ensures.told s (ends.layout_is ∙ sym next.layout_is) i.1 i.2 in
       let least = c.loop-i.auto.i in
       let fewer = c.requires.rest in
       let all = ends.count in (
         one_more c.args.encoder.now.options s c.loop-i.i _ _ _ _ i.0 (leaves_by _ _ _ _ _ _ _ next.options here.0),
         here.1,
-        behind_last s 0 (c.loop-i.i + 1) _ ends.silent (omega (arith, least, fewer, all)) c.clear.ensures,
+        all_behind s (c.loop-i.i + 1) c.clear.new.work.rows (six_by s c.args.encoder.now.layout ends.layout_is next.six) ends.silent (omega (arith, least, fewer, all)) c.clear.ensures,
       );
-  next = stands_by _ _ _ _ _ _ c.loop-i.invariant.next.options c.loop-i.invariant.next.fscod_is c.in_ok-frame.ensures.next;
-  row = zeros_within _ 1536 c.clear.ensures;
+  next = stands_by _ _ _ _ _ _ c.loop-i.invariant.next.options c.loop-i.invariant.next.layout_is c.in_ok-frame.ensures.next;
+  rows = zeros_fit c.args.encoder.now.layout c.clear.new.work.rows c.loop-i.invariant.next.six c.clear.ensures;
   never_falls = (omega (arith, c.loop-i.invariant.never_falls.0, c.in_ok-frame.ensures.never_falls.0), omega (arith, c.loop-i.invariant.never_falls.1, c.in_ok-frame.ensures.never_falls.1));
 }
 
@@ -61,8 +61,8 @@ returns-clause-told g c = λ s start ends frames.
     let all : c.loop-i.i ≡ frame_count s.count = omega (arith, count, some, most (omega (arith, count, some)), past) in
     so_many c.args.encoder.now.options s c.loop-i.i (frame_count s.count) _ _ all i.0
 
-pub frame-requires-clause-number : goal.frame-requires-clause-number
-frame-requires-clause-number g c = c.loop-i.invariant.next.number
+pub frame-requires-clause-stands : goal.frame-requires-clause-stands
+frame-requires-clause-stands g c = stands_own _ _ _ _ c.loop-i.invariant.next
 
-pub frame-requires-clause-long : goal.frame-requires-clause-long
-frame-requires-clause-long g c = c.loop-i.invariant.next.long
+pub frame-requires-clause-rows : goal.frame-requires-clause-rows
+frame-requires-clause-rows g c = rows_by _ _ _ (sym c.loop-i.invariant.next.layout_is) c.loop-i.invariant.rows

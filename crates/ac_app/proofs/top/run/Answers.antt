@@ -1,4 +1,4 @@
-use Rattle.ac_app.proofs.Ends.{run_cause, is_done, refused_is, too_long_is, complete_is}
+use Rattle.ac_app.proofs.Ends.{run_cause, is_done, refused_is, too_low_is, too_long_is, complete_is}
 use Rattle.ac_app.proofs.top.run.Goals as goal
 
 pub returns-clause-told : goal.returns-clause-told
@@ -20,6 +20,9 @@ returns-clause-ok g c = λ bytes told. is_done _ c.answer.result bytes _ _ (retu
 
 pub returns-clause-refused : goal.returns-clause-refused
 returns-clause-refused g c = λ bytes o kind place told. refused_is _ o c.answer.result bytes kind place (returns-clause-cause g c bytes told)
+
+pub returns-clause-too_low : goal.returns-clause-too_low
+returns-clause-too_low g c = λ bytes o part needed room told. too_low_is _ o c.answer.result bytes part needed room (returns-clause-cause g c bytes told)
 
 pub returns-clause-too_long : goal.returns-clause-too_long
 returns-clause-too_long g c = λ bytes o told. too_long_is _ o c.answer.result bytes (returns-clause-cause g c bytes told)
