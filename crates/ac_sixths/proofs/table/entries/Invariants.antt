@@ -1,0 +1,7 @@
+use Rattle.std.proofs.Common.{◌≡◌, ◌<◌, ℕ, pos, ◌-ℤ◌, slice_index, length}
+use Rattle.ac_sixths.specs.Keys.{sixths}
+use Rattle.ac_sixths.proofs.table.entries.Given as goal
+
+abbrev pub invariant-loop-i : goal.invariant-loop-i
+invariant-loop-i l =
+    ((j : ℕ) → j < l.i → slice_index l.f j ≡ sixths (pos 3000 -ℤ pos j)) × (length l.f ≡ 4128)
