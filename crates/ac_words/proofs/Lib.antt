@@ -2,6 +2,5 @@ pub mod Numbers
 pub mod RateTexts
 pub mod CoupleTexts
 pub mod InPairs
-pub mod EachOption
 pub mod Said
 pub mod Split

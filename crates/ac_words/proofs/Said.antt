@@ -1,25 +1,24 @@
--- What is found in pairs, and what their values say.
-use Rattle.std.proofs.Common.{◌≡◌, ◌∙◌, ◌<◌, ◌≤◌, ◌^◌, ℕ, refl, sym, ap, arith, List, [], ◌∷◌, length, MatchOption, Option, Some, None, codes, subst, unwrap_or}
+-- What the words of pairs say, in one way, and within its bounds.
+use Rattle.std.proofs.Common.{◌≡◌, ◌∙◌, ◌<◌, ◌≤◌, ◌^◌, ℕ, true, sym, ap, arith, List, map, Option, Some, None, codes, subst}
 use Rattle.std.specs.Option.{ForSome}
 use Rattle.ac_words.specs.Asked.{GivesCommand}
-use Rattle.ac_words.specs.Grammar.{BandwidthOf, CoupleOf, EncodePairs, IsCouple, IsNumber, NodesOf, RateOf, Pair, Says, Text, spelled, value_in}
-use Rattle.ac_words.specs.Found.{Finds, IsRateText, Joins}
+use Rattle.ac_words.specs.Grammar.{ArePairs, BandwidthOf, CoupleOf, EncodePairs, FramesOf, IsNumber, NodesOf, Pair, RateOf, Says, SeedOf, SynthPairs, Text, encode_known, synth_known, value_in}
 use Rattle.ac_words.specs.Lawful.{IsRange, IsWithinBounds}
+use Rattle.ac_words.specs.Pairs.{are_pairs, hyphened, value_behind}
 use Rattle.ac_base.specs.Rates.{IsRate}
 use Rattle.ac_words.specs.declared.meaning.Command.{Command}
-use Rattle.ac_words.specs.declared.meaning.Command.TheVariants.{Encode}
+use Rattle.ac_words.specs.declared.meaning.Command.TheVariants.{Encode, Decode, Synth}
 use Rattle.ac_words.specs.declared.meaning.Couple.{Couple}
 use Rattle.ac_words.specs.declared.meaning.Couple.TheVariants.{Off, Auto, Bins}
 use Rattle.ac_words.specs.declared.meaning.Options.{Options}
-use Rattle.ac_words.specs.declared.pairs.Found.{Found}
 use Rattle.ac_words.proofs.CoupleTexts.{couple_one}
-use Rattle.ac_words.proofs.InPairs.{first_pair, found_of, one_more, spelled_one}
+use Rattle.ac_words.proofs.InPairs.{in_pairs, pairs_are, spelled_one, value_read}
 use Rattle.ac_words.proofs.Numbers.{same_number}
 use Rattle.ac_words.proofs.RateTexts.{rate_fits}
 
 -- ---- a text says one number
 
-rate_one : (text : Text) (m n : ℕ) → IsRateText text m → IsRateText text n → m ≡ n
+rate_one : (text : Text) (m n : ℕ) → RateOf (Some text) m → RateOf (Some text) n → m ≡ n
 rate_one text m n h k = same_number text m n (rate_fits m h.1) (rate_fits n k.1) h.0 k.0
 
 number_one : (most : ℕ) → most < 2 ^ 64 → (text : Text) (m n : ℕ) → IsNumber most text m → IsNumber most text n → m ≡ n
@@ -34,147 +33,70 @@ nodes_one = number_one 10000000 (omega arith)
 bandwidth_one : (text : Text) (m n : ℕ) → IsNumber 60 text m → IsNumber 60 text n → m ≡ n
 bandwidth_one = number_one 60 (omega arith)
 
--- ---- pairs add one thing
+-- ---- what is read in the words is what their pairs say
 
-joins_one : {A : Type 0} (Is : Text → A → Type 0) → ((text : Text) (m n : A) → Is text m → Is text n → m ≡ n)
-    → (a b c : Option A) (v : Option Text) → Joins Is a v b → Joins Is a v c → b ≡ c
-joins_one Is one a b c None h k = h ∙ sym k
-joins_one {A} Is one a b c (Some text) h k = h.1.1 ∙ ap (λ (n : A). Some n) (one text h.1.0 k.1.0 h.1.2 k.1.2) ∙ sym k.1.1
+-- the options of words
+abbrev pub encode_options : List Text
+encode_options = map hyphened encode_known
 
-pub finds_one : (f g k : Found) (ws : List Text) → Finds f ws g → Finds f ws k → g ≡ k
-finds_one f g k ws h j =
-    let same : h.pairs ≡ j.pairs = spelled_one h.pairs j.pairs (sym h.words ∙ j.words) in
-    let rate : g.rate ≡ k.rate = joins_one IsRateText rate_one f.rate g.rate k.rate _ (subst (λ ps. Joins IsRateText f.rate (value_in (codes "rate") ps) g.rate) same h.rate) j.rate in
-    let nodes : g.nodes ≡ k.nodes = joins_one (IsNumber 10000000) nodes_one f.nodes g.nodes k.nodes _ (subst (λ ps. Joins (IsNumber 10000000) f.nodes (value_in (codes "nodes") ps) g.nodes) same h.nodes) j.nodes in
-    let bw : g.bw ≡ k.bw = joins_one (IsNumber 60) bandwidth_one f.bw g.bw k.bw _ (subst (λ ps. Joins (IsNumber 60) f.bw (value_in (codes "bw") ps) g.bw) same h.bw) j.bw in
-    let heard = subst (λ ps. Joins IsCouple f.couple (value_in (codes "couple") ps) g.couple) same h.couple in
-    let couple : g.couple ≡ k.couple = joins_one IsCouple couple_one f.couple g.couple k.couple _ heard j.couple in
-    ap (λ x. found_of x g.nodes g.bw g.couple) rate
-    ∙ ap (λ x. found_of k.rate x g.bw g.couple) nodes
-    ∙ ap (λ x. found_of k.rate k.nodes x g.couple) bw
-    ∙ ap (λ x. found_of k.rate k.nodes k.bw x) couple
+abbrev pub synth_options : List Text
+synth_options = map hyphened synth_known
 
--- ---- pairs are read one after the other
+-- what the words say of encode
+abbrev pub Read : List Text → Options → Type 0
+Read ws o = Says (value_behind (codes "--rate") ws) (value_behind (codes "--nodes") ws) (value_behind (codes "--bw") ws)
+    (value_behind (codes "--couple") ws) o
 
-module _ (f : Found) (o v : Text) (ws : List Text) where
-  pub goes_on : (m : Found) (r : Option Found) → Finds f (o ∷ v ∷ []) m → MatchOption r ((g : Found) → Finds m ws g → ⊥) (Finds m ws)
-      → MatchOption r ((g : Found) → Finds f (o ∷ v ∷ ws) g → ⊥) (Finds f (o ∷ v ∷ ws))
-  goes_on m None first none = λ g h.
-      let p = first_pair f g o v ws h in
-      let same : p.between ≡ m = finds_one f p.between m (o ∷ v ∷ []) p.first first in
-      none g (subst (λ (x : Found). Finds x ws g) same p.rest)
-  goes_on m (Some g) first rest = one_more f m g o v ws first rest
+-- what the values of pairs say
+abbrev SayAll : List Pair → Options → Type 0
+SayAll ps o = Says (value_in (codes "rate") ps) (value_in (codes "nodes") ps) (value_in (codes "bw") ps) (value_in (codes "couple") ps) o
 
-  pub stops : ((m : Found) → Finds f (o ∷ v ∷ []) m → ⊥) → (g : Found) → Finds f (o ∷ v ∷ ws) g → ⊥
-  stops none g h = let p = first_pair f g o v ws h in none p.between p.first
+read_alike : (ws : List Text) (ps : List Pair) (o : Options) → ArePairs encode_known ws ps → Read ws o ≡ SayAll ps o
+read_alike ws ps o h =
+    ap (λ (v : Option Text). Says v (value_behind (codes "--nodes") ws) (value_behind (codes "--bw") ws) (value_behind (codes "--couple") ws) o)
+    (value_read encode_known ws ps h (codes "rate"))
+    ∙ ap (λ (v : Option Text). Says (value_in (codes "rate") ps) v (value_behind (codes "--bw") ws) (value_behind (codes "--couple") ws) o)
+    (value_read encode_known ws ps h (codes "nodes"))
+    ∙ ap (λ (v : Option Text). Says (value_in (codes "rate") ps) (value_in (codes "nodes") ps) v (value_behind (codes "--couple") ws) o)
+    (value_read encode_known ws ps h (codes "bw"))
+    ∙ ap (λ (v : Option Text). Says (value_in (codes "rate") ps) (value_in (codes "nodes") ps) (value_in (codes "bw") ps) v o)
+    (value_read encode_known ws ps h (codes "couple"))
 
-pub lone : (f : Found) (ws : List Text) → length ws ≡ 1 → (g : Found) → Finds f ws g → ⊥
-lone f ws one g h = go h.pairs (ap length (sym h.words) ∙ one)
-  where
-    go : (ps : List Pair) → length (spelled ps) ≡ 1 → ⊥
-    go [] e = omega arith
-    go (p ∷ ps) e = omega arith
+pub encode_from : (ws : List Text) (o : Options) → are_pairs encode_options ws ≡ true → Read ws o → EncodePairs ws o
+encode_from ws o e h =
+    let i = in_pairs encode_known ws e in
+    record { pairs = i.pairs; form = i.form; says = subst (λ (X : Type 0). X) (read_alike ws i.pairs o i.form) h }
 
--- ---- from what is found to what the values say
+pub encode_pairs : (ws : List Text) (o : Options) → EncodePairs ws o → are_pairs encode_options ws ≡ true
+encode_pairs ws o h = pairs_are encode_known ws h.pairs h.form
 
-abbrev pub nothing : Found
-nothing = found_of None None None None
+pub encode_read : (ws : List Text) (o : Options) → EncodePairs ws o → Read ws o
+encode_read ws o h = subst (λ (X : Type 0). X) (sym (read_alike ws h.pairs o h.form)) h.says
 
-abbrev pub options : ℕ → ℕ → Option ℕ → Couple → Options
-options rate nodes bw couple = record { rate = rate; nodes = nodes; bw = bw; couple = couple }
-
-rate_said : (v : Option Text) (found : Option ℕ) (rate : ℕ) → found ≡ Some rate → Joins IsRateText None v found → RateOf v rate
-rate_said None found rate is h = absurd (cc)
-rate_said (Some text) found rate is h =
-    let other : found ≡ Some h.1.0 = h.1.1 in
-    let same : h.1.0 ≡ rate = cc in
-    subst (λ (x : ℕ). IsRateText text x) same h.1.2
-
-nodes_said : (v : Option Text) (found : Option ℕ) → Joins (IsNumber 10000000) None v found → NodesOf v (unwrap_or found 20000)
-nodes_said None found h = ap (λ (x : Option ℕ). unwrap_or x 20000) h
-nodes_said (Some text) found h = subst (λ (x : Option ℕ). IsNumber 10000000 text (unwrap_or x 20000)) (sym h.1.1) h.1.2
-
-bandwidth_said : (v : Option Text) (found : Option ℕ) → Joins (IsNumber 60) None v found → BandwidthOf v found
-bandwidth_said None found h = h
-bandwidth_said (Some text) found h = h.1
-
-couple_said : (v : Option Text) (found : Option Couple) → Joins IsCouple None v found → CoupleOf v (unwrap_or found Auto)
-couple_said None found h = ap (λ (x : Option Couple). unwrap_or x Auto) h
-couple_said (Some text) found h = subst (λ (x : Option Couple). IsCouple text (unwrap_or x Auto)) (sym h.1.1) h.1.2
-
-pub pairs_say : (ws : List Text) (f : Found) (rate : ℕ) → f.rate ≡ Some rate → Finds nothing ws f
-    → EncodePairs ws (options rate (unwrap_or f.nodes 20000) f.bw (unwrap_or f.couple Auto))
-pairs_say ws f rate is h = record {
-  pairs = h.pairs;
-  words = h.words;
-  known = h.known;
-  once = h.once;
-  says = record {
-    rate_is = rate_said (value_in (codes "rate") h.pairs) f.rate rate is h.rate;
-    nodes_is = nodes_said (value_in (codes "nodes") h.pairs) f.nodes h.nodes;
-    bw_is = bandwidth_said (value_in (codes "bw") h.pairs) f.bw h.bw;
-    couple_is = couple_said (value_in (codes "couple") h.pairs) f.couple h.couple;
-  };
-}
-
--- ---- and back
-
-record Heard {A : Type 0} (Is : Text → A → Type 0) (v : Option Text) : Type 0 where
-  found : Option A
-  joins : Joins Is None v found
-
-rate_heard : (v : Option Text) (rate : ℕ) → RateOf v rate → Joins IsRateText None v (Some rate)
-rate_heard None rate h = absurd h
-rate_heard (Some text) rate h = (refl, (rate, refl, h))
-
-nodes_heard : (v : Option Text) (nodes : ℕ) → NodesOf v nodes → Heard (IsNumber 10000000) v
-nodes_heard None nodes h = record { found = None; joins = refl }
-nodes_heard (Some text) nodes h = record { found = Some nodes; joins = (refl, (nodes, refl, h)) }
-
-bandwidth_heard : (v : Option Text) (bw : Option ℕ) → BandwidthOf v bw → Joins (IsNumber 60) None v bw
-bandwidth_heard None bw h = h
-bandwidth_heard (Some text) bw h = (refl, h)
-
-couple_heard : (v : Option Text) (couple : Couple) → CoupleOf v couple → Heard IsCouple v
-couple_heard None couple h = record { found = None; joins = refl }
-couple_heard (Some text) couple h = record { found = Some couple; joins = (refl, (couple, refl, h)) }
-
--- what is found in pairs that say something
-pub record FoundIn (ws : List Text) (rate : ℕ) : Type 0 where
-  pub found : Found
-  pub finds : Finds nothing ws found
-  pub has_rate : found.rate ≡ Some rate
-
-pub found_in : (ws : List Text) (o : Options) → EncodePairs ws o → FoundIn ws o.rate
-found_in ws o h =
-    let nodes = nodes_heard (value_in (codes "nodes") h.pairs) o.nodes h.says.nodes_is in
-    let couple = couple_heard (value_in (codes "couple") h.pairs) o.couple h.says.couple_is in
+pub synth_from : (ws : List Text) (seed frames : ℕ) → are_pairs synth_options ws ≡ true → SeedOf (value_behind (codes "--seed") ws) seed
+    → FramesOf (value_behind (codes "--frames") ws) frames → SynthPairs ws seed frames
+synth_from ws seed frames e h k =
+    let i = in_pairs synth_known ws e in
     record {
-      found = found_of (Some o.rate) nodes.found o.bw couple.found;
-      finds = record {
-        pairs = h.pairs;
-        words = h.words;
-        known = h.known;
-        once = h.once;
-        rate = rate_heard (value_in (codes "rate") h.pairs) o.rate h.says.rate_is;
-        nodes = nodes.joins;
-        bw = bandwidth_heard (value_in (codes "bw") h.pairs) o.bw h.says.bw_is;
-        couple = couple.joins;
-      };
-      has_rate = refl;
+      pairs = i.pairs;
+      form = i.form;
+      seed_is = subst (λ (v : Option Text). SeedOf v seed) (value_read synth_known ws i.pairs i.form (codes "seed")) h;
+      frames_is = subst (λ (v : Option Text). FramesOf v frames) (value_read synth_known ws i.pairs i.form (codes "frames")) k;
     }
 
-pub unsaid : (ws : List Text) → ((f : Found) → Finds nothing ws f → ⊥) → (o : Options) → EncodePairs ws o → ⊥
-unsaid ws none o h = let i = found_in ws o h in none i.found i.finds
+pub synth_pairs : (ws : List Text) (seed frames : ℕ) → SynthPairs ws seed frames → are_pairs synth_options ws ≡ true
+synth_pairs ws seed frames h = pairs_are synth_known ws h.pairs h.form
 
-pub no_rate : (ws : List Text) (f : Found) → Finds nothing ws f → f.rate ≡ None → (o : Options) → EncodePairs ws o → ⊥
-no_rate ws f finds none o h =
-    let i = found_in ws o h in
-    let same : f ≡ i.found = finds_one nothing f i.found ws finds i.finds in
-    let some : f.rate ≡ Some o.rate = ap (λ (x : Found). x.rate) same ∙ i.has_rate in
-    cc
+pub seed_read : (ws : List Text) (seed frames : ℕ) → SynthPairs ws seed frames → SeedOf (value_behind (codes "--seed") ws) seed
+seed_read ws seed frames h = subst (λ (v : Option Text). SeedOf v seed) (sym (value_read synth_known ws h.pairs h.form (codes "seed"))) h.seed_is
+
+pub frames_read : (ws : List Text) (seed frames : ℕ) → SynthPairs ws seed frames → FramesOf (value_behind (codes "--frames") ws) frames
+frames_read ws seed frames h = subst (λ (v : Option Text). FramesOf v frames) (sym (value_read synth_known ws h.pairs h.form (codes "frames"))) h.frames_is
 
 -- ---- one meaning
+
+abbrev options : ℕ → ℕ → Option ℕ → Couple → Options
+options rate nodes bw couple = record { rate = rate; nodes = nodes; bw = bw; couple = couple }
 
 same_options : (o p : Options) → o.rate ≡ p.rate → o.nodes ≡ p.nodes → o.bw ≡ p.bw → o.couple ≡ p.couple → o ≡ p
 same_options o p a b c d =
@@ -207,15 +129,25 @@ says_one rate nodes bw couple o p h k =
     (same_bandwidth bw o.bw p.bw h.bw_is k.bw_is)
     (same_couple couple o.couple p.couple h.couple_is k.couple_is)
 
--- what the values of pairs say
-abbrev SayAll : List Pair → Options → Type 0
-SayAll ps o = Says (value_in (codes "rate") ps) (value_in (codes "nodes") ps) (value_in (codes "bw") ps) (value_in (codes "couple") ps) o
-
 pub pairs_one : (ws : List Text) (o p : Options) → EncodePairs ws o → EncodePairs ws p → o ≡ p
 pairs_one ws o p h k =
-    let same : h.pairs ≡ k.pairs = spelled_one h.pairs k.pairs (sym h.words ∙ k.words) in
+    let same : h.pairs ≡ k.pairs = spelled_one h.pairs k.pairs (sym h.form.words ∙ k.form.words) in
     says_one (value_in (codes "rate") k.pairs) (value_in (codes "nodes") k.pairs) (value_in (codes "bw") k.pairs)
     (value_in (codes "couple") k.pairs) o p (subst (λ ps. SayAll ps o) same h.says) k.says
+
+same_seed : (v : Option Text) (m n : ℕ) → SeedOf v m → SeedOf v n → m ≡ n
+same_seed None m n h k = absurd h
+same_seed (Some text) m n h k = number_one 18446744073709551615 (omega arith) text m n h k
+
+same_frames : (v : Option Text) (m n : ℕ) → FramesOf v m → FramesOf v n → m ≡ n
+same_frames None m n h k = absurd h
+same_frames (Some text) m n h k = number_one 200 (omega arith) text m n h.0 k.0
+
+pub seed_one : (ws : List Text) (s f t g : ℕ) → SynthPairs ws s f → SynthPairs ws t g → s ≡ t
+seed_one ws s f t g h k = same_seed (value_behind (codes "--seed") ws) s t (seed_read ws s f h) (seed_read ws t g k)
+
+pub frames_one : (ws : List Text) (s f t g : ℕ) → SynthPairs ws s f → SynthPairs ws t g → f ≡ g
+frames_one ws s f t g h k = same_frames (value_behind (codes "--frames") ws) f g (frames_read ws s f h) (frames_read ws t g k)
 
 -- ---- the bounds
 
@@ -240,6 +172,18 @@ couple_in v Auto h = tt
 couple_in None (Bins begin end) h = absurd (cc)
 couple_in (Some text) (Bins begin end) h = (h.1, h.2, h.3)
 
+seed_in : (v : Option Text) (seed : ℕ) → SeedOf v seed → seed < 2 ^ 64
+seed_in None seed h = absurd h
+seed_in (Some text) seed h = omega (arith, h.1)
+
+least_frames : (v : Option Text) (frames : ℕ) → FramesOf v frames → 1 ≤ frames
+least_frames None frames h = absurd h
+least_frames (Some text) frames h = h.1
+
+most_frames : (v : Option Text) (frames : ℕ) → FramesOf v frames → frames ≤ 200
+most_frames None frames h = absurd h
+most_frames (Some text) frames h = h.0.1
+
 pub within_bounds : (ws : List Text) (c : Command) → GivesCommand ws c → IsWithinBounds c
 within_bounds ws (Encode o) h =
     let pairs = h.1.2.pairs in
@@ -250,3 +194,7 @@ within_bounds ws (Encode o) h =
       bandwidth = bandwidth_in (value_in (codes "bw") pairs) o.bw says.bw_is;
       coupling = couple_in (value_in (codes "couple") pairs) o.couple says.couple_is;
     }
+within_bounds ws Decode h = tt
+within_bounds ws (Synth seed frames) h =
+    let read = h.1.2 in
+    (seed_in _ seed read.seed_is, least_frames _ frames read.frames_is, most_frames _ frames read.frames_is)

@@ -43,6 +43,12 @@ value_in name ps = option_map (λ p. p.1) (find (λ p. bytes_eq p.0 name) ps)
 abbrev pub all_known : List Text → List Pair → Bool
 all_known known = list_all (λ p. list_any (λ name. bytes_eq p.0 name) known)
 
+-- these words are the pairs, each with one of these names, and none twice
+pub record ArePairs (known : List Text) (ws : List Text) (ps : List Pair) : Type 0 where
+  pub words : ws ≡ spelled ps
+  pub names : all_known known ps ≡ true
+  pub once : none_twice ps ≡ true
+
 -- ---- the options of encode
 
 abbrev pub encode_known : List Text
@@ -89,11 +95,29 @@ pub record Says (rate nodes bw couple : Option Text) (o : Options) : Type 0 wher
 -- these words are pairs that give these options
 pub record EncodePairs (ws : List Text) (o : Options) : Type 0 where
   pub pairs : List Pair
-  pub words : ws ≡ spelled pairs
-  pub known : all_known encode_known pairs ≡ true
-  pub once : none_twice pairs ≡ true
+  pub form : ArePairs encode_known ws pairs
   pub says : Says (value_in (codes "rate") pairs) (value_in (codes "nodes") pairs) (value_in (codes "bw") pairs)
       (value_in (codes "couple") pairs) o
+
+-- ---- the options of synth
+
+abbrev pub synth_known : List Text
+synth_known = codes "seed" ∷ codes "frames" ∷ []
+
+-- where the numbers drawn start: at most 2^64 - 1; a seed is required
+abbrev pub SeedOf : Option Text → ℕ → Type 0
+SeedOf value seed = MatchOption value ⊥ (λ text. IsNumber 18446744073709551615 text seed)
+
+-- how many frames: 1 to 200; their number is required
+abbrev pub FramesOf : Option Text → ℕ → Type 0
+FramesOf value frames = MatchOption value ⊥ (λ text. IsNumber 200 text frames × (1 ≤ frames))
+
+-- these words are pairs that give this seed and so many frames
+pub record SynthPairs (ws : List Text) (seed frames : ℕ) : Type 0 where
+  pub pairs : List Pair
+  pub form : ArePairs synth_known ws pairs
+  pub seed_is : SeedOf (value_in (codes "seed") pairs) seed
+  pub frames_is : FramesOf (value_in (codes "frames") pairs) frames
 
 -- ---- the names
 
@@ -120,12 +144,18 @@ are_names n = list_all is_name (last_words n)
 -- what words mean
 pub data Meaning : Type 0 where
   encode : Options → LastWords → Meaning
+  decode : LastWords → Meaning
+  synth : ℕ → ℕ → LastWords → Meaning
 
--- `encode`, then its pairs, then three names
+-- `encode` or `synth`, then its pairs, then three names; `decode`, then three names
 abbrev pub Means : List Text → Meaning → Type 0
 Means ws (encode o n) =
     (middle : List Text) × (ws ≡ codes "encode" ∷ (middle ++ last_words n))
     × EncodePairs middle o × (are_names n ≡ true)
+Means ws (decode n) = (ws ≡ codes "decode" ∷ last_words n) × (are_names n ≡ true)
+Means ws (synth seed frames n) =
+    (middle : List Text) × (ws ≡ codes "synth" ∷ (middle ++ last_words n))
+    × SynthPairs middle seed frames × (are_names n ≡ true)
 
 -- the words mean something
 abbrev pub InGrammar : List Text → Type 0

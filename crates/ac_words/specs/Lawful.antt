@@ -1,9 +1,9 @@
--- What the grammar keeps of the options of the encoder, whatever the words: their bounds.
-use Rattle.std.specs.Prelude.{◌+◌, ◌≤◌}
+-- What the grammar keeps of a command's options, whatever the words: their bounds.
+use Rattle.std.specs.Prelude.{◌+◌, ◌^◌, ◌<◌, ◌≤◌}
 use Rattle.std.specs.Option.{ForSome}
 use Rattle.ac_base.specs.Rates.{IsRate}
 use Rattle.ac_words.specs.declared.meaning.Command.{Command}
-use Rattle.ac_words.specs.declared.meaning.Command.TheVariants.{Encode}
+use Rattle.ac_words.specs.declared.meaning.Command.TheVariants.{Encode, Decode, Synth}
 use Rattle.ac_words.specs.declared.meaning.Couple.{Couple}
 use Rattle.ac_words.specs.declared.meaning.Couple.TheVariants.{Off, Auto, Bins}
 use Rattle.ac_words.specs.declared.meaning.Options.{Options}
@@ -21,6 +21,8 @@ pub record AreOptions (o : Options) : Type 0 where
   pub bandwidth : ForSome o.bw (λ bw. bw ≤ 60)
   pub coupling : IsRange o.couple
 
--- the options of the command are within their bounds
+-- the options of the command are within their bounds: a seed below 2^64, and 1 to 200 frames of generated sound
 abbrev pub IsWithinBounds : Command → Type 0
 IsWithinBounds (Encode o) = AreOptions o
+IsWithinBounds Decode = Unit {0}
+IsWithinBounds (Synth seed frames) = (seed < 2 ^ 64) × (1 ≤ frames) × (frames ≤ 200)

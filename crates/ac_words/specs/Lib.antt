@@ -1,5 +1,5 @@
 pub mod Digits
 pub mod Grammar
-pub mod Found
+pub mod Pairs
 pub mod Asked
 pub mod Lawful

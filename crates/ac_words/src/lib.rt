@@ -9,8 +9,10 @@ mod fault;
 mod laws;
 mod meaning;
 mod number;
+mod options;
 mod pairs;
 mod read;
+mod values;
 
 pub use fault::WordsFault;
 pub use laws::words_mean_one_thing;

@@ -14,6 +14,15 @@ pub struct Names<'a> {
 pub enum Command {
     /// Sound to AC-3.
     Encode(Options),
+    /// AC-3 to sound.
+    Decode,
+    /// Generated sound to AC-3.
+    Synth {
+        /// Where the numbers drawn start.
+        seed: u64,
+        /// How many frames: 1 to 200.
+        frames: u32,
+    },
 }
 
 /// The options of the encoder.

@@ -7,7 +7,7 @@ ghost use Rattle.ac_words.specs.declared.fault.WordsFault.TheVariants.{Usage, No
 
 use crate::fault::WordsFault;
 use crate::meaning::{Command, Names};
-use crate::pairs::encode_options;
+use crate::options::command_of;
 use std::alloc::Global;
 
 /// The words in three parts.
@@ -70,14 +70,11 @@ fn asked_by<'a>(words: &'a [String]) -> Option<Asked<'a>>
     if !are_names(parts.names) {
         return None;
     }
-    if parts.command != "encode" {
-        return None;
-    }
-    let Some(options) = encode_options(parts.pairs) else {
+    let Some(command) = command_of(parts.command, parts.pairs) else {
         return None;
     };
     Some(Asked {
-        command: Command::Encode(options),
+        command,
         names: parts.names,
     })
 }

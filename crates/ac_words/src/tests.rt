@@ -355,14 +355,61 @@ fn names_are_not_empty_and_have_no_hyphen_before_them(rt: HostRuntime) -> Result
 }
 
 #[test]
+fn commands_are_read(rt: HostRuntime) -> Result<(), Fail> {
+    let lines: [(&[&str], Command); 4] = [
+        (&["decode", "a", "-", "c"], Command::Decode),
+        (
+            &["synth", "--seed", "0", "--frames", "1", "a", "-", "c"],
+            Command::Synth { seed: 0, frames: 1 },
+        ),
+        (
+            &["synth", "--frames", "200", "--seed", "7", "a", "-", "c"],
+            Command::Synth {
+                seed: 7,
+                frames: 200,
+            },
+        ),
+        (
+            &[
+                "synth",
+                "--seed",
+                "18446744073709551615",
+                "--frames",
+                "10",
+                "a",
+                "-",
+                "c",
+            ],
+            Command::Synth {
+                seed: u64::MAX,
+                frames: 10,
+            },
+        ),
+    ];
+    for (line, meant) in lines {
+        let words = words_of(&rt, line)?;
+        assert_eq!(rt; command(rt.alloc(), &words), Ok(meant), "{line:?}");
+        let named = names(rt.alloc(), &words)?;
+        assert_eq!(rt; named.from, "a");
+        assert_eq!(rt; named.to, "-");
+        assert_eq!(rt; named.report, "c");
+    }
+    Ok(())
+}
+
+#[test]
 fn another_number_of_words_is_refused(rt: HostRuntime) -> Result<(), Fail> {
-    let lines: [&[&str]; 6] = [
+    let lines: [&[&str]; 10] = [
         &["encode"],
         &["encode", "a", "b", "c"],
         &["encode", "--rate", "192", "a", "b"],
         &["encode", "--rate", "192", "a", "b", "c", "d"],
         &["encode", "--rate", "192", "--", "a", "b", "c"],
         &["encode", "--rate", "192", "--rate", "192", "a", "b", "c"],
+        &["decode", "a", "b"],
+        &["decode", "a", "b", "c", "d"],
+        &["synth", "--seed", "1", "--frames", "2", "a", "b"],
+        &["synth", "--seed", "1", "--frames", "a", "b", "c"],
     ];
     for line in lines {
         assert!(rt; are_refused(&rt, &words_of(&rt, line)?), "{line:?}");
@@ -372,13 +419,43 @@ fn another_number_of_words_is_refused(rt: HostRuntime) -> Result<(), Fail> {
 
 #[test]
 fn other_words_are_refused(rt: HostRuntime) -> Result<(), Fail> {
-    let lines: [&[&str]; 6] = [
+    let lines: [&[&str]; 21] = [
         &["--help"],
         &["--version"],
         &["encode", "--speed", "192", "a", "b", "c"],
         &["encode", "-rate", "192", "a", "b", "c"],
-        &["decode", "-", "-", "-"],
         &["Encode", "--rate", "192", "a", "b", "c"],
+        &["Decode", "a", "b", "c"],
+        &["decode", "--rate", "192", "a", "b", "c"],
+        &["decode", "--seed", "1", "a", "b", "c"],
+        &["encode", "--rate", "192", "--seed", "1", "a", "b", "c"],
+        &["synth", "a", "b", "c"],
+        &["synth", "--seed", "1", "a", "b", "c"],
+        &["synth", "--frames", "2", "a", "b", "c"],
+        &["synth", "--seed", "1", "--frames", "0", "a", "b", "c"],
+        &["synth", "--seed", "1", "--frames", "201", "a", "b", "c"],
+        &["synth", "--seed", "1", "--frames", "02", "a", "b", "c"],
+        &["synth", "--seed", "01", "--frames", "2", "a", "b", "c"],
+        &["synth", "--seed", "-1", "--frames", "2", "a", "b", "c"],
+        &[
+            "synth",
+            "--seed",
+            "18446744073709551616",
+            "--frames",
+            "2",
+            "a",
+            "b",
+            "c",
+        ],
+        &[
+            "synth", "--seed", "1", "--frames", "2", "--seed", "1", "a", "b", "c",
+        ],
+        &[
+            "synth", "--seed", "1", "--frames", "2", "--frames", "2", "a", "b", "c",
+        ],
+        &[
+            "synth", "--seed", "1", "--frames", "2", "--rate", "192", "a", "b", "c",
+        ],
     ];
     for line in lines {
         assert!(rt; are_refused(&rt, &words_of(&rt, line)?), "{line:?}");
