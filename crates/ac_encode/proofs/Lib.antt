@@ -1,0 +1,11 @@
+pub mod Enough
+pub mod Inputs
+pub mod Places
+pub mod Bits
+pub mod OneShape
+pub mod Heads
+pub mod Laws
+pub mod Faults
+pub mod Loops
+pub mod Encodes
+pub mod Causes
