@@ -1,0 +1,12 @@
+pub mod Alike
+pub mod Blocks
+pub mod Changes
+pub mod Coupled
+pub mod First
+pub mod Heads
+pub mod Lists
+pub mod Pieces
+pub mod Readable
+pub mod Streams
+pub mod Worth
+pub mod Whole

@@ -1,0 +1,7 @@
+pub mod Decoding
+pub mod Heard
+pub mod Inside
+pub mod Separated
+pub mod Sound
+pub mod Sounding
+pub mod Values

@@ -1,0 +1,2 @@
+pub mod Separation
+pub mod Written
