@@ -1,0 +1,4 @@
+pub mod Channels
+pub mod Drawn
+pub mod Filling
+pub mod Floors

@@ -1,0 +1,3 @@
+pub mod Sums
+pub mod Synth
+pub mod Loop
