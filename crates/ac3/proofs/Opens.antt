@@ -3,7 +3,7 @@ use Rattle.std.proofs.Common.{◌≡◌, ◌⊎◌, ◌∷◌, ◌++◌, false, 
 use Rattle.std.specs.Prelude.{MatchResult}
 use Rattle.ac_words.specs.Grammar.{Text, LastWords}
 use Rattle.ac_words.specs.Asked.{GivesNames}
-use Rattle.ac_app.specs.World.{World}
+use Rattle.ac_world.specs.World.{World}
 use Rattle.ac3.specs.declared.perform.Answers.{Answers}
 use Rattle.ac3.specs.declared.perform.Ended.{Ended}
 use Rattle.ac3.specs.declared.perform.Ended.TheVariants.{OpenFault, Unsaid}

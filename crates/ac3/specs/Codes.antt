@@ -1,7 +1,7 @@
 -- The program's own exit codes, and the lines that it prints itself; the status lines and codes of runs are ac_app's.
 use Rattle.std.specs.Prelude.{ℕ, List, codes}
-use Rattle.ac_app.specs.declared.status.Status.{Status}
-use Rattle.ac_app.specs.declared.status.Status.TheVariants as statuses
+use Rattle.ac_status.specs.declared.status.Status.{Status}
+use Rattle.ac_status.specs.declared.status.Status.TheVariants as statuses
 use Rattle.ac_words.specs.declared.fault.WordsFault.{WordsFault}
 use Rattle.ac_words.specs.declared.fault.WordsFault.TheVariants.{Usage, NoMemory}
 

@@ -2,7 +2,7 @@
 use Rattle.std.specs.Prelude.{◌≡◌, ℕ, Bool, true, false, not, ◌&&◌, ◌||◌, List, [], ◌∷◌, ◌++◌, Option, Some, None, Result, Ok, Err, codes, if◌then◌else◌}
 use Rattle.std.specs.Str.{bytes_eq}
 use Rattle.ac_words.specs.Grammar.{Text, LastWords}
-use Rattle.ac_app.specs.World.{Told, told, World}
+use Rattle.ac_world.specs.World.{Told, told, World}
 use Rattle.ac3.specs.declared.desk.Sharing.{Sharing}
 use Rattle.ac3.specs.declared.desk.Sharing.TheVariants.{Free, OneFile, Apart}
 use Rattle.ac3.specs.declared.perform.Answers.{Answers}

@@ -4,12 +4,13 @@ use Rattle.ac_io.specs.Within.{TakesAtMost}
 use Rattle.ac_words.specs.Grammar.{Text, LastWords, InGrammar}
 use Rattle.ac_words.specs.Asked.{GivesNames}
 use Rattle.ac_words.specs.declared.fault.WordsFault.{WordsFault}
-use Rattle.ac_app.specs.Input.{limit}
-use Rattle.ac_app.specs.Lines.{code_of, status_line}
-use Rattle.ac_app.specs.Run.{RoseFor, HasCause, RunLeaves, IsDone}
-use Rattle.ac_app.specs.World.{told, World, NeverFalls}
-use Rattle.ac_app.specs.declared.status.Status.{Status}
-use Rattle.ac_app.specs.declared.status.Status.TheVariants.{Ok, Usage, WriteFault}
+use Rattle.ac_world.specs.Limit.{limit}
+use Rattle.ac_status.specs.Lines.{code_of, status_line}
+use Rattle.ac_status.specs.Rises.{RoseFor}
+use Rattle.ac_app.specs.Run.{HasCause, RunLeaves, IsDone}
+use Rattle.ac_world.specs.World.{told, World, NeverFalls}
+use Rattle.ac_status.specs.declared.status.Status.{Status}
+use Rattle.ac_status.specs.declared.status.Status.TheVariants.{Ok, Usage, WriteFault}
 use Rattle.ac3.specs.Codes.{open_fault, open_fault_line, status_of_words}
 use Rattle.ac3.specs.Deeds.{Deed, unsaid, Did, told_report, AllGiven, Stopped}
 use Rattle.ac3.specs.declared.perform.Things.{Things}

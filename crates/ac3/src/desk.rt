@@ -1,5 +1,5 @@
 ghost use Rattle.std.specs.Prelude.{[], ◌∷◌, List, Option};
-ghost use Rattle.ac_app.specs.World.{told};
+ghost use Rattle.ac_world.specs.World.{told};
 ghost use Rattle.ac3.specs.Deeds.{Deed, Did, asked, given, compared, printed, standard_input, file_to_read, standard_output, output_file, report_file, input_of, output_of};
 
 use ac_app::{Failed, Sink, Source};

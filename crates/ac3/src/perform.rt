@@ -2,8 +2,8 @@
 ghost use Rattle.std.specs.Prelude.{◌≡◌, ◌⊎◌, false, [], ◌∷◌, List, map, string_bytes, MatchResult, OnErr};
 ghost use Rattle.ac_words.specs.Asked.{texts_of};
 ghost use Rattle.ac_words.specs.declared.fault.WordsFault.TheVariants.{Usage};
-ghost use Rattle.ac_app.specs.Lines.{status_line};
-ghost use Rattle.ac_app.specs.declared.status.Status.TheVariants as statuses;
+ghost use Rattle.ac_status.specs.Lines.{status_line};
+ghost use Rattle.ac_status.specs.declared.status.Status.TheVariants as statuses;
 ghost use Rattle.ac3.specs.Codes.{open_fault_line, status_of_words};
 ghost use Rattle.ac3.specs.Deeds.{Deed, Did, asked, said, unsaid, refused, report_file, told_report, is_dash, input_of, output_of, report_given, all_given, all_compared, means_one as is_one_of, is_shared as is_shared_by, AllGiven, Refused, Stopped};
 ghost use Rattle.ac3.specs.Ends.{code_of_end, IfRan, IfOpenFault, IfNoWords, IfUnsaid, Leaves, world_of, RunsOn, StopsAt, IsOutside, HasUnsaid};

@@ -1,13 +1,5 @@
-pub mod Enough
-pub mod Inputs
-pub mod Places
-pub mod Bits
-pub mod OneShape
-pub mod Heads
-pub mod Laws
-pub mod Faults
-pub mod Loops
-pub mod Encodes
+pub mod Decodes
 pub mod Jobs
 pub mod Ends
 pub mod Done
+pub mod Again

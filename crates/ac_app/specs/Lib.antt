@@ -1,8 +1,3 @@
-pub mod Input
-pub mod Lines
-pub mod Sound
-pub mod Stream
-pub mod World
-pub mod Frames
+pub mod Decoded
+pub mod Generated
 pub mod Run
-pub mod Loop

@@ -221,7 +221,12 @@ fn plain(rt: HostRuntime) -> Result<Vec<u8>, Fail> {
     Ok(again!(rt; plain_sound(rt.alloc())))
 }
 
+mod decoded;
 mod faults;
 mod heads;
 mod layouts;
+mod mono;
+mod reported;
 mod sounds;
+mod streams;
+mod synthesis;

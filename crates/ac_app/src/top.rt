@@ -2,32 +2,31 @@
 ghost use Rattle.std.specs.Prelude.{◌≡◌, ◌≢◌, ℕ, ◌+◌, ◌≤◌, List, Some, map, string_bytes};
 ghost use Rattle.ac_base.specs.declared.sizes.Part.{Part};
 ghost use Rattle.ac_io.specs.Within.{TakesAtMost};
+ghost use Rattle.ac_reading.specs.Framed.{Reading};
+ghost use Rattle.ac_record.specs.declared.codes.FrameFault.{FrameFault};
 ghost use Rattle.ac_riff.specs.declared.fault.WavKind.{WavKind};
 ghost use Rattle.ac_riff.specs.declared.head.WavHead.{WavHead};
 ghost use Rattle.ac_words.specs.Grammar.{InGrammar};
+ghost use Rattle.ac_words.specs.Lawful.{IsWithinBounds};
 ghost use Rattle.ac_words.specs.declared.meaning.Options.{Options};
-ghost use Rattle.ac_app.specs.Input.{limit, IsInput, IsRefused, IsTooLong, IsRateTooLow};
-ghost use Rattle.ac_app.specs.Lines.{status_line};
-ghost use Rattle.ac_app.specs.Run.{RoseFor, IsLawful, CommandLeaves, CommandHasCause, JobLeaves, HasCause, AsksEncode};
+ghost use Rattle.ac_decode.specs.Stream.{IsEnd, IsBadStream, IsTooLong as IsLongStream};
+ghost use Rattle.ac_encode.specs.Input.{IsInput, IsRefused, IsTooLong, IsRateTooLow};
+ghost use Rattle.ac_world.specs.Limit.{limit};
+ghost use Rattle.ac_status.specs.Lines.{status_line};
+ghost use Rattle.ac_status.specs.Rises.{RoseFor};
+ghost use Rattle.ac_app.specs.Decoded.{AnswersStream};
+ghost use Rattle.ac_app.specs.Run.{CommandLeaves, CommandHasCause, JobLeaves, HasCause, AsksEncode, AsksDecode};
 ghost use Rattle.ac_app.specs.Run.{Tail, answer_of, RunLeaves, IsDone};
-ghost use Rattle.ac_app.specs.World.{told, world, NeverFalls};
-ghost use Rattle.ac_app.specs.declared.status.Status.TheVariants.{Ok, Usage, BadWav, RateTooLow, ReadFault, WriteFault, NoMemory, TooLong};
+ghost use Rattle.ac_world.specs.World.{told, world, NeverFalls};
+ghost use Rattle.ac_status.specs.declared.status.Status.TheVariants.{Ok, Usage, BadWav, RateTooLow, BadStream, ReadFault, WriteFault, NoMemory, TooLong};
 
-use crate::encode::encode;
-use crate::lines;
-use crate::status::Status;
+use crate::decoding::decode_all;
+use ac_encode::encode;
 use ac_io::{Sink, Source};
-use ac_words::{Command, Options, WordsFault, command};
+use ac_status::{Status, status_line};
+use ac_synth::synth;
+use ac_words::{Command, WordsFault, command};
 use std::alloc::Global;
-
-/// The options of an encode.
-fn options_of(asked: Command) -> Options
-    ensures { asked ≡ Command.Encode result }
-{
-    match asked {
-        Command::Encode(options) => options,
-    }
-}
 
 /// Does what a command asks for.
 fn follow<S: Source, O: Sink, N: Sink>(
@@ -37,11 +36,12 @@ fn follow<S: Source, O: Sink, N: Sink>(
     output: &mut O,
     report: &mut N,
 ) -> Status
-    requires { IsLawful asked }
+    requires { IsWithinBounds asked }
     ensures told { (bytes : List ℕ) → S.left input.old ≡ Some bytes → CommandLeaves asked result bytes
         (world S.left S.faults O.held O.faults N.held N.faults input.old output.old report.old)
         (world S.left S.faults O.held O.faults N.held N.faults input.new output.new report.new) }
     ensures cause { (bytes : List ℕ) → S.left input.old ≡ Some bytes → CommandHasCause asked result bytes }
+    ensures answers { (bytes : List ℕ) → S.left input.old ≡ Some bytes → asked ≡ Command.Decode → AnswersStream bytes result }
     ensures not_usage { result ≢ Status.Usage }
     ensures kept { result ≡ Status.NoMemory → (output.new ≡ output.old) × (report.new ≡ report.old) }
     ensures most_read { (bytes : List ℕ) → S.left input.old ≡ Some bytes → TakesAtMost bytes (limit + 1) (S.left input.new) }
@@ -52,7 +52,11 @@ fn follow<S: Source, O: Sink, N: Sink>(
         (world S.left S.faults O.held O.faults N.held N.faults input.old output.old report.old)
         (world S.left S.faults O.held O.faults N.held N.faults input.new output.new report.new) }
 {
-    encode(alloc, options_of(asked), input, output, report)
+    match asked {
+        Command::Encode(options) => encode(alloc, options, input, output, report),
+        Command::Decode => decode_all(alloc, input, output, report),
+        Command::Synth { seed, frames } => synth(alloc, seed, frames, output, report),
+    }
 }
 
 /// Does what the words ask for, but for the status line.
@@ -67,6 +71,8 @@ fn job<S: Source, O: Sink, N: Sink>(
         (world S.left S.faults O.held O.faults N.held N.faults input.old output.old report.old)
         (world S.left S.faults O.held O.faults N.held N.faults input.new output.new report.new) }
     ensures cause { (bytes : List ℕ) → S.left input.old ≡ Some bytes → HasCause (map string_bytes words.now) result bytes }
+    ensures answers { (bytes : List ℕ) → S.left input.old ≡ Some bytes → AsksDecode (map string_bytes words.now)
+        → AnswersStream bytes result }
     ensures usage { result ≡ Status.Usage → InGrammar (map string_bytes words.now) → ⊥ }
     ensures outside { (InGrammar (map string_bytes words.now) → ⊥) → result ≡ Status.Usage }
     ensures untouched { result ≡ Status.Usage → (input.new ≡ input.old) × (output.new ≡ output.old) × (report.new ≡ report.old) }
@@ -91,7 +97,7 @@ fn tell<N: Sink>(status: Status, report: &mut N) -> bool
     ensures line { Tail result (told N.held N.faults report.old) (told N.held N.faults report.new) (status_line status) }
     ensures never_falls { N.faults report.old ≤ N.faults report.new }
 {
-    report.write(lines::status(status).as_bytes()).is_ok()
+    report.write(status_line(status).as_bytes()).is_ok()
 }
 
 /// A status line that wasn't taken whole turns Ok into WriteFault.
@@ -121,8 +127,9 @@ pub fn run<S: Source, O: Sink, N: Sink>(
     ensures told { (bytes : List ℕ) → S.left input.old ≡ Some bytes → RunLeaves (map string_bytes words.now) result bytes
         (world S.left S.faults O.held O.faults N.held N.faults input.old output.old report.old)
         (world S.left S.faults O.held O.faults N.held N.faults input.new output.new report.new) }
-    // Ok: the output gained the frames of the data, the report their lines and the status line, and the
-    // source lost the bytes up to the end of its data.
+    // Ok of encode: the output gained the frames of the data, the report their lines and the status line, and the source lost the
+    // bytes up to the end of its data. Ok of decode: the input was frames, which the source lost, and the output gained their sound.
+    // Ok of synth: the output gained the frames of the generated sound, and the report its line and the status line.
     ensures ok { (bytes : List ℕ) → S.left input.old ≡ Some bytes → result ≡ Status.Ok → IsDone (map string_bytes words.now) bytes
         (world S.left S.faults O.held O.faults N.held N.faults input.old output.old report.old)
         (world S.left S.faults O.held O.faults N.held N.faults input.new output.new report.new) }
@@ -152,6 +159,17 @@ pub fn run<S: Source, O: Sink, N: Sink>(
     ensures complete { (bytes : List ℕ) (o : Options) (head : WavHead) → S.left input.old ≡ Some bytes
         → AsksEncode (map string_bytes words.now) o → IsInput o bytes head → result ≢ Status.ReadFault → result ≢ Status.WriteFault
         → result ≢ Status.NoMemory → result ≡ Status.Ok }
+    // A stream of frames of one kind within the limit is decoded, unless something failed.
+    ensures decoded { (bytes : List ℕ) (frames : List Reading) → S.left input.old ≡ Some bytes → AsksDecode (map string_bytes words.now)
+        → IsEnd bytes frames → result ≢ Status.ReadFault → result ≢ Status.WriteFault → result ≢ Status.NoMemory → result ≡ Status.Ok }
+    // The first frame that is refused is named, with its fault.
+    ensures bad_stream { (bytes : List ℕ) (frame : ℕ) (fault : FrameFault) → S.left input.old ≡ Some bytes
+        → AsksDecode (map string_bytes words.now) → IsBadStream bytes frame fault → result ≢ Status.ReadFault
+        → result ≢ Status.WriteFault → result ≢ Status.NoMemory → result ≡ Status.BadStream frame fault }
+    // So is the byte behind the limit, where a frame needs it and it is there.
+    ensures long_stream { (bytes : List ℕ) → S.left input.old ≡ Some bytes → AsksDecode (map string_bytes words.now)
+        → IsLongStream bytes → result ≢ Status.ReadFault → result ≢ Status.WriteFault → result ≢ Status.NoMemory
+        → result ≡ Status.TooLong limit }
     // A fault of reading or of writing comes only where a count of faults rose.
     ensures rose { RoseFor result
         (world S.left S.faults O.held O.faults N.held N.faults input.old output.old report.old)

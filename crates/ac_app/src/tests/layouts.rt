@@ -1,6 +1,6 @@
 //! Sounds of more than one channel.
 use super::{Left, NONE, WIDE, front, left_by, refuses, reports, sample, spoken, write};
-use crate::{Part, Status, input_law, run_law, stream_law};
+use crate::{Part, Status, decode_law, input_law, run_law, stream_law};
 use std::alloc::{AllocError, Global};
 use std::test::Fail;
 
@@ -9,6 +9,7 @@ fn laws(rt: HostRuntime) {
     stream_law();
     input_law();
     run_law();
+    decode_law();
     assert_eq!(rt; WIDE.len(), 68);
 }
 

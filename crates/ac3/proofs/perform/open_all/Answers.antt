@@ -1,5 +1,5 @@
 use Rattle.std.proofs.Common.{[], ◌∷◌}
-use Rattle.ac_app.specs.World.{told}
+use Rattle.ac_world.specs.World.{told}
 use Rattle.ac3.specs.Deeds.{given, refused, input_of, output_of, report_file, no_input, no_output, no_report}
 use Rattle.ac3.proofs.Deeds.{did_then}
 use Rattle.ac3.proofs.perform.open_all.Goals as goal

@@ -1,4 +1,4 @@
-use Rattle.ac_app.proofs.Ends.{run_cause, is_done, refused_is, too_low_is, too_long_is, complete_is}
+use Rattle.ac_app.proofs.Ends.{run_cause, is_done, refused_is, too_low_is, too_long_is, complete_is, still_answers}
 use Rattle.ac_app.proofs.top.run.Goals as goal
 
 pub returns-clause-told : goal.returns-clause-told
@@ -29,3 +29,15 @@ returns-clause-too_long g c = λ bytes o told. too_long_is _ o c.answer.result b
 
 pub returns-clause-complete : goal.returns-clause-complete
 returns-clause-complete g c = λ bytes o head told. complete_is _ o c.answer.result bytes head (returns-clause-cause g c bytes told)
+
+pub returns-clause-decoded : goal.returns-clause-decoded
+returns-clause-decoded g c = λ bytes frames told asks is.
+    (still_answers bytes c.job-status.result c.answer.result c.tell-whole.result c.answer.ensures (c.job-status.ensures.answers bytes told asks)).decoded frames is
+
+pub returns-clause-bad_stream : goal.returns-clause-bad_stream
+returns-clause-bad_stream g c = λ bytes frame fault told asks is.
+    (still_answers bytes c.job-status.result c.answer.result c.tell-whole.result c.answer.ensures (c.job-status.ensures.answers bytes told asks)).bad frame fault is
+
+pub returns-clause-long_stream : goal.returns-clause-long_stream
+returns-clause-long_stream g c = λ bytes told asks is.
+    (still_answers bytes c.job-status.result c.answer.result c.tell-whole.result c.answer.ensures (c.job-status.ensures.answers bytes told asks)).long is
