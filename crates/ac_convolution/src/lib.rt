@@ -7,10 +7,12 @@ mod forward;
 mod inverse;
 mod product;
 mod rows;
+mod sparse;
 mod sums;
 mod table;
 mod wide;
 
+pub use sparse::sparse_correlation;
 pub use sums::negacyclic_correlation;
 pub use table::kernel_table;
 

@@ -704,13 +704,37 @@ static HIGH: [[i64; 48]; 32] = [
     ],
 ];
 
+/// With so many numbers that aren't 0 it is quicker to take them one by one.
+const FEW: u16 = 24;
+
+/// 1 where it is there.
+#[inline]
+fn count(there: bool) -> u16
+    ensures { result ≤ 1 }
+{
+    if there { 1 } else { 0 }
+}
+
+/// Whether at most `FEW` numbers aren't 0, as in a low-frequency channel: both ways to the sums give the same.
+fn has_few(g: &[i32; 256]) -> bool {
+    let mut many = 0;
+    for i in 0..256usize {
+        many += count(g[i] != 0);
+    }
+    many <= FEW
+}
+
 /// Sum `k` is that of the products of `g` and the cosines of 256 powers of five, from 5^`k` on. Numbers of `g` are at most 2^24 in
 /// magnitude, cosines have the scale 2^30, and sums are exact.
 pub fn cosine_sums(g: &[i32; 256], out: &mut [i64; 256])
     requires { Within (2 ^ 24) 256 g.now }
     ensures { Lists 256 (λ k. sigma 256 (λ i. items g.now i *ℤ cosine_at (5 ^ (i + k)))) out.new }
 {
-    ac_convolution::negacyclic_correlation(g, &POWERS, &LOW, &HIGH, out);
+    if has_few(g) {
+        ac_convolution::sparse_correlation(g, &POWERS, out);
+    } else {
+        ac_convolution::negacyclic_correlation(g, &POWERS, &LOW, &HIGH, out);
+    }
 }
 
 #[cfg(test)]

@@ -3,6 +3,7 @@ pub mod Pointers
 pub mod Rounding
 pub mod Values
 pub mod Coming
+pub mod Middles
 pub mod Numbers
 pub mod Costs
 pub mod Reading

@@ -96,16 +96,6 @@ fn shifted(z: i64, k: u8) -> i64
     z >> k
 }
 
-/// `z` over `d`, rounded downwards.
-#[inline]
-fn quotient(z: i64, d: i64) -> i64
-    requires bound { unsigned_abs z ≤ 2 ^ 49 }
-    requires divisor { pos 1 ≤ℤ d }
-    ensures { result ≡ floor_div z (unsigned_abs d) }
-{
-    z.div_euclid(d)
-}
-
 /// `c` times 2^`e`.
 #[inline]
 fn scaled(c: i32, e: u8) -> i64
@@ -288,30 +278,36 @@ fn multiple_of(code: u16, width: u8, e: u8) -> i64
     shifted(step_times(code, width), e)
 }
 
-/// Twice the distance of the middle of a level from that of all of them, of scale 2^24.
+/// The middles of the levels of pointers 0 to 5, 16 places for each, of scale 2^24 (A/52 Tables 7.19 to 7.23).
+static MIDDLES: [i32; 96] = [
+    0, 0, 0, 0, 0, 0, 0, 0, 0, 0, 0, 0, 0, 0, 0, 0, -11184811, 0, 11184810, 0, 0, 0, 0, 0, 0, 0, 0,
+    0, 0, 0, 0, 0, -13421773, -6710887, 0, 6710886, 13421772, 0, 0, 0, 0, 0, 0, 0, 0, 0, 0, 0,
+    -14380471, -9586981, -4793491, 0, 4793490, 9586980, 14380470, 0, 0, 0, 0, 0, 0, 0, 0, 0,
+    -15252015, -12201612, -9151209, -6100806, -3050403, 0, 3050402, 6100805, 9151208, 12201611,
+    15252014, 0, 0, 0, 0, 0, -15658735, -13421773, -11184811, -8947849, -6710887, -4473925,
+    -2236963, 0, 2236962, 4473924, 6710886, 8947848, 11184810, 13421772, 15658734, 0,
+];
+
+/// The middle of a level, of scale 2^24.
 #[inline]
-fn twice_off(code: u16, levels: u8) -> i64
-    requires levels { levels ≤ 15 }
-    requires code { code < levels }
-    ensures value { result ≡ (pos (2 * code + 1) -ℤ pos levels) *ℤ pos (2 ^ 24) }
-    ensures bound { unsigned_abs result ≤ 2 ^ 28 }
+fn middle_entry(code: u16, bap: u8) -> i32
+    requires pointer { bap ≤ 5 }
+    requires code { code < levels bap }
+    requires small { code ≤ 14 }
+    ensures { result ≡ middle (levels bap) code 0 }
 {
-    product(i64::from(2 * code + 1) - i64::from(levels), ONE)
+    MIDDLES[16 * bap as usize + code as usize]
 }
 
 /// The middle of a level over 2^`e`.
 #[inline]
-#[tactic(auto, unfolding(crate::specs::Quantiser::middle))]
-fn middle_of(code: u16, levels: u8, e: u8) -> i64
+fn middle_of(code: u16, bap: u8, e: u8) -> i64
+    requires pointer { bap ≤ 5 }
+    requires code { code < levels bap }
     requires exponent { e ≤ 24 }
-    requires levels { levels ≤ 15 }
-    requires code { code < levels }
-    ensures { result ≡ middle levels code e }
+    ensures { result ≡ middle (levels bap) code e }
 {
-    quotient(
-        twice_off(code, levels),
-        product(i64::from(levels), i64::from(power(e))),
-    )
+    shifted(i64::from(middle_entry(code, bap)), e)
 }
 
 /// The value of a code, as a whole number.
@@ -323,7 +319,7 @@ fn value_at(code: u16, bap: u8, e: u8) -> i64
     ensures { result ≡ value_of code bap e }
 {
     if bap <= 5 {
-        middle_of(code, levels_of(bap), e)
+        middle_of(code, bap, e)
     } else {
         multiple_of(code, width_of(bap), e)
     }

@@ -1,5 +1,5 @@
 -- One entry more.
-use Rattle.std.proofs.Common.{◌^◌, ◌-◌, ◌≡◌, ◌≢◌, ℕ, ◌+◌, ◌<◌, ◌≤◌, ℤ, pos, neg_ℤ, ◌+ℤ◌, List, length, slice_index_or, unsigned_abs, arith, below_more, get_or-set_other, get_or-set_same, inl, inr, subst, sym}
+use Rattle.std.proofs.Common.{◌⊎◌, ◌^◌, ◌-◌, ◌≡◌, ◌≢◌, ℕ, ◌+◌, ◌<◌, ◌≤◌, ℤ, pos, neg_ℤ, ◌+ℤ◌, List, length, slice_index_or, unsigned_abs, arith, below_more, get_or-set_other, get_or-set_same, inl, inr, subst, sym}
 use Rattle.std.proofs.lemmas.Bool.{cases_eq}
 use Rattle.std.proofs.Math.ListN.{set}
 use Rattle.std.proofs.lemmas.Int.{ints, int_min_is, int_max_is}
@@ -20,6 +20,23 @@ within_more m n xs z room before here =
     below_more _ n
     (λ k h. let ne : k ≢ n = omega arith in rw get_or-set_other (before k h))
     (rw get_or-set_same here)
+
+-- one entry more from `from` on
+pub listed_more : (from n : ℕ) (f : ℕ → ℤ) (xs : List ℤ) (z : ℤ) → n < length xs
+    → ((k : ℕ) → from ≤ k → k < n → slice_index_or xs k (pos 0) ≡ f k) → z ≡ f n
+    → (k : ℕ) → from ≤ k → k < n + 1 → slice_index_or (set xs n z) k (pos 0) ≡ f k
+listed_more from n f xs z room before here k least below =
+    elim (cases_eq k n) [
+      | inl same ↦ let P : ℕ → Type 0 = λ j. slice_index_or (set xs n z) j (pos 0) ≡ f j in subst P (sym same) (rw get_or-set_same here)
+      | inr apart ↦ rw get_or-set_other (before k least (omega arith))
+    ]
+
+-- what stays but for one entry more
+pub stays_more : (from n : ℕ) (old xs : List ℤ) (z : ℤ) → from ≤ n
+    → ((k : ℕ) → (k < from) ⊎ (n ≤ k) → slice_index_or xs k (pos 0) ≡ slice_index_or old k (pos 0))
+    → (k : ℕ) → (k < from) ⊎ (n + 1 ≤ k) → slice_index_or (set xs n z) k (pos 0) ≡ slice_index_or old k (pos 0)
+stays_more from n old xs z least before k (inl early) = let ne : k ≢ n = omega arith in rw get_or-set_other (before k (inl early))
+stays_more from n old xs z least before k (inr late) = let ne : k ≢ n = omega arith in rw get_or-set_other (before k (inr (omega arith)))
 
 -- one entry anew
 pub within_set : (m n i : ℕ) (xs : List ℤ) (z : ℤ) → i < length xs → Within m n xs → unsigned_abs z ≤ m → Within m n (set xs i z)

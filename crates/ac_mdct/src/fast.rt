@@ -4,6 +4,7 @@ ghost use Rattle.ac_base.specs.Sigma.{Within};
 ghost use Rattle.ac_mdct.specs.Forward.{windowed, forward_sum, IsForward};
 ghost use Rattle.ac_mdct.specs.Inverse.{inverse_sum, part, IsSound, IsDelay};
 ghost use Rattle.ac_mdct.specs.Place.{place, unfolded};
+ghost use Rattle.ac_mdct.specs.Overlap.{IsSoundIn, IsDelayIn, StaysOut};
 ghost use Rattle.ac_base.specs.Sigma.{Lists};
 
 use crate::folded::fold;
@@ -77,6 +78,40 @@ fn unfold(sums: &[i64; 256], n: usize) -> i64
     }
 }
 
+/// The first 128 places of a block: the samples, and what it leaves for the next.
+fn lower(sums: &[i64; 256], delay: &mut [i64; 256], out: &mut [i32; 256])
+    requires sums { Within (2 ^ 62) 256 sums.now }
+    requires delay { Within (2 ^ 55) 256 delay.old }
+    ensures sound { IsSoundIn 0 128 sums.now delay.old out.new }
+    ensures delay { IsDelayIn 0 128 sums.now delay.new }
+    ensures rest { StaysOut 0 128 out.old out.new }
+    ensures rest_delay { StaysOut 0 128 delay.old delay.new }
+    ensures bound { Within (2 ^ 55) 256 delay.new }
+{
+    for n in 0..128usize {
+        let first = part(unfold(sums, n), ac_base::window(n as u16));
+        out[n] = sample(first, delay[n]);
+        delay[n] = part(unfold(sums, n + 256), ac_base::window(n as u16 + 256));
+    }
+}
+
+/// The last 128 places of a block: the samples, and what it leaves for the next.
+fn upper(sums: &[i64; 256], delay: &mut [i64; 256], out: &mut [i32; 256])
+    requires sums { Within (2 ^ 62) 256 sums.now }
+    requires delay { Within (2 ^ 55) 256 delay.old }
+    ensures sound { IsSoundIn 128 256 sums.now delay.old out.new }
+    ensures delay { IsDelayIn 128 256 sums.now delay.new }
+    ensures rest { StaysOut 128 256 out.old out.new }
+    ensures rest_delay { StaysOut 128 256 delay.old delay.new }
+    ensures bound { Within (2 ^ 55) 256 delay.new }
+{
+    for n in 128..256usize {
+        let first = part(unfold(sums, n), ac_base::window(n as u16));
+        out[n] = sample(first, delay[n]);
+        delay[n] = part(unfold(sums, n + 256), ac_base::window(n as u16 + 256));
+    }
+}
+
 /// The 256 samples of a block of coefficients and of what the block before left in `delay`, which then
 /// holds what this block leaves for the next (A/52 7.9.4.1, steps 1 to 6).
 ///
@@ -90,9 +125,6 @@ pub fn inverse(coefs: &[i32; 256], delay: &mut [i64; 256], out: &mut [i32; 256])
 {
     let mut sums = [0i64; 256];
     inverse_sums(coefs, &mut sums);
-    for n in 0..256usize {
-        let first = part(unfold(&sums, n), ac_base::window(n as u16));
-        out[n] = sample(first, delay[n]);
-        delay[n] = part(unfold(&sums, n + 256), ac_base::window(n as u16 + 256));
-    }
+    lower(&sums, delay, out);
+    upper(&sums, delay, out);
 }

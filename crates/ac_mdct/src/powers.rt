@@ -194,6 +194,14 @@ fn opposite(t: i64) -> i64
     -t
 }
 
+/// Sum `a`, or the one 256 places before.
+#[inline]
+fn sum_at(sums: &[i64; 256], a: usize) -> i64
+    ensures { result ≡ slice_index_or sums.now (a % 256) (pos 0) }
+{
+    sums[a % 256]
+}
+
 /// The sum of products with the cosines of the powers from 5^a on, from the sums at 0 to 255.
 #[inline]
 pub fn power_sum(sums: &[i64; 256], w: &[i32; 256], a: usize) -> i64
@@ -203,9 +211,6 @@ pub fn power_sum(sums: &[i64; 256], w: &[i32; 256], a: usize) -> i64
     ensures value { result ≡ sigma 256 (λ b. slice_index_or w.now b (pos 0) *ℤ cosine_at (5 ^ (a + b))) }
     ensures bound { unsigned_abs result ≤ 2 ^ 62 }
 {
-    if a < 256 {
-        sums[a]
-    } else {
-        opposite(sums[a - 256])
-    }
+    let sum = sum_at(sums, a);
+    if a < 256 { sum } else { opposite(sum) }
 }
