@@ -1,6 +1,7 @@
 -- Costs of blocks, channel by channel, and of the parts by blocks.
 use Rattle.std.proofs.Common.{◌≡◌, ℕ, suc, ◌+◌, ◌<◌, ◌≤◌, List, [], slice_index, slice_index_or, sym, ap, ap₂, ◌∙◌, arith}
 use Rattle.ac_base.specs.declared.runs.Run.{Run}
+use Rattle.ac_base.specs.declared.shapes.Shape.{Shape}
 use Rattle.ac_base.specs.declared.spans.Span.{Span}
 use Rattle.ac_base.specs.declared.sizes.Parts.{Parts}
 use Rattle.ac_base.specs.Counts.{Tally, joined}
@@ -46,18 +47,18 @@ counts-few c so here all few more e =
     (omega (arith, l, few.0, more.0), omega (arith, a, few.1, more.1), omega (arith, b, few.2, more.2), omega (arith, d, few.3, more.3))
 
 -- the parts, by the costs of blocks
-pub blocks-are : (v : AtOffset) (assign : List (List ℕ)) (n : ℕ) (exponents mantissas : List ℕ) → n ≤ 6 → ((b : ℕ) → b < 6 → slice_index exponents b ≡ exponents_at v assign b) → ((b : ℕ) → b < 6 → slice_index mantissas b ≡ mantissas_at v assign b) → sum_below n (slice_index exponents) + sum_below n (slice_index mantissas) ≡ sum_below n (block_cost v.shape.acmod v.shape.lfe v.shape.bw v.shape.couple assign (pointers v.shape v.raw v.t assign))
+pub blocks-are : (v : AtOffset) (assign : List (List ℕ)) (n : ℕ) (exponents mantissas : List ℕ) → n ≤ 6 → ((b : ℕ) → b < 6 → slice_index exponents b ≡ exponents_at v.shape assign b) → ((b : ℕ) → b < 6 → slice_index mantissas b ≡ mantissas_at v assign b) → sum_below n (slice_index exponents) + sum_below n (slice_index mantissas) ≡ sum_below n (block_cost v.shape.acmod v.shape.lfe v.shape.bw v.shape.couple assign (pointers v.shape v.raw v.t assign))
 blocks-are v assign n exponents mantissas l ee em =
-    let x = sum_same-below n (slice_index exponents) (exponents_at v assign) (λ b m. ee b (omega arith)) in
+    let x = sum_same-below n (slice_index exponents) (exponents_at v.shape assign) (λ b m. ee b (omega arith)) in
     let y = sum_same-below n (slice_index mantissas) (mantissas_at v assign) (λ b m. em b (omega arith)) in
-    let both = sum_both n (exponents_at v assign) (mantissas_at v assign) in
+    let both = sum_both n (exponents_at v.shape assign) (mantissas_at v assign) in
     omega (arith, x, y, both)
 
 -- an assignment's codes alone tell its exponents
-pub exponents-same : (v : AtOffset) (codes assign : List (List ℕ)) (b : ℕ) → channels v.shape ≤ 7 → ((c : ℕ) → c < 7 → slice_index_or codes c [] ≡ word_of assign c) → exponents_at v codes b ≡ exponents_at v assign b
-exponents-same v codes assign b few same =
-    sum_same-below (channels v.shape) (λ c. exponent_bits (slice_index (word_of codes c) b) (channel_span v.shape c)) (λ c. exponent_bits (slice_index (word_of assign c) b) (channel_span v.shape c))
-    (λ c l. ap (λ w. exponent_bits (slice_index w b) (channel_span v.shape c)) (same c (omega arith)))
+pub exponents-same : (shape : Shape) (codes assign : List (List ℕ)) (b : ℕ) → channels shape ≤ 7 → ((c : ℕ) → c < 7 → slice_index_or codes c [] ≡ word_of assign c) → exponents_at shape codes b ≡ exponents_at shape assign b
+exponents-same shape codes assign b few same =
+    sum_same-below (channels shape) (λ c. exponent_bits (slice_index (word_of codes c) b) (channel_span shape c)) (λ c. exponent_bits (slice_index (word_of assign c) b) (channel_span shape c))
+    (λ c l. ap (λ w. exponent_bits (slice_index w b) (channel_span shape c)) (same c (omega arith)))
 
 pub parts-are : (v : AtOffset) (assign : List (List ℕ)) (side : Parts) (a b c d last : ℕ) → side ≡ side_of v.shape.acmod v.shape.lfe v.shape.couple → a + b ≡ sum_below 2 (block_cost v.shape.acmod v.shape.lfe v.shape.bw v.shape.couple assign (pointers v.shape v.raw v.t assign)) → c + d ≡ sum_below 6 (block_cost v.shape.acmod v.shape.lfe v.shape.bw v.shape.couple assign (pointers v.shape v.raw v.t assign)) → last ≡ mantissas_at v assign 5 → record { front = side.front + a + b; total = side.total + c + d; last = last } ≡ parts_at v.shape v.raw v.t assign
 parts-are v assign side a b c d last es ef et el =

@@ -20,10 +20,12 @@ part_of parts part = if part == 0 then parts.front else if part == 1 then parts.
 abbrev pub run_bits : Shape → ℕ → Run → ℕ
 run_bits shape c run = exponent_bits run.kind (channel_span shape c)
 
--- the exponents count once, in the block that sends them
+-- so many bits of exponents count once, in the block that sends them
+abbrev pub sent_in : ℕ → Run → ℕ → ℕ
+sent_in part run bits = if part == 0 then (if nat_lt run.from 2 then bits else 0) else if part == 1 then bits else 0
+
 abbrev pub bits_in : Shape → ℕ → ℕ → Run → ℕ
-bits_in shape part c run =
-    if part == 0 then (if nat_lt run.from 2 then run_bits shape c run else 0) else if part == 1 then run_bits shape c run else 0
+bits_in shape part c run = sent_in part run (run_bits shape c run)
 
 -- a cost for each block of the run among the first n
 abbrev pub in_blocks : ℕ → Run → ℕ → ℕ
@@ -33,6 +35,14 @@ in_blocks n run cost = sum_below n (λ b. if has run b then cost else 0)
 abbrev pub in_part : ℕ → Run → ℕ → ℕ
 in_part part run cost =
     if part == 0 then in_blocks 2 run cost else if part == 1 then in_blocks 6 run cost else if has run 5 then cost else 0
+
+-- what a run costs in a part, by the bits of its exponents and the sixths of its mantissas in one of its blocks
+abbrev pub costs_in : ℕ → ℕ → Run → ℕ → ℕ
+costs_in part exponents run mantissas = 6 * sent_in part run exponents + in_part part run mantissas
+
+-- in each part
+abbrev pub costs_by_part : ℕ → Run → ℕ → List ℕ
+costs_by_part exponents run mantissas = costs_in 0 exponents run mantissas ∷ costs_in 1 exponents run mantissas ∷ costs_in 2 exponents run mantissas ∷ []
 
 -- the sixths of a run of a coded channel in a part
 abbrev pub run_sixths : Shape → List (List (List ℕ)) → ℕ → ℕ → ℕ → Run → ℕ

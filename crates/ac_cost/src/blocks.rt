@@ -1,10 +1,10 @@
 //! What blocks have of runs.
-ghost use Rattle.std.specs.Prelude.{◌≡◌, ◌<◌, ◌≤◌, ◌+◌, ◌*◌, ◌^◌};
+ghost use Rattle.std.specs.Prelude.{◌≡◌, ◌<◌, ◌≤◌, ◌+◌, ◌*◌, ◌^◌, ℕ, slice_index};
 ghost use Rattle.ac_base.specs.Fit.{list_bits, exponent_bits, side_of};
 ghost use Rattle.ac_base.specs.Shape.{IsSpan};
 ghost use Rattle.ac_base.specs.Spans.{IsKind, greatest_kind};
 ghost use Rattle.ac_cost.specs.Runs.{has};
-ghost use Rattle.ac_cost.specs.Sixths.{in_blocks};
+ghost use Rattle.ac_cost.specs.Sixths.{in_blocks, costs_by_part};
 
 use ac_base::{Lead, Parts, Run, Shape, Span, side_bits};
 use ac_expo::groups;
@@ -57,6 +57,23 @@ pub fn in_blocks(blocks: u8, run: &Run, cost: u32) -> u32
         }
     }
     sum
+}
+
+/// What a run costs in sixths of a bit by the bits of its exponents and the sixths of its mantissas in one of its blocks: in the
+/// front, in the whole frame, and in the mantissas of block 5.
+pub fn run_costs(exponents: u32, run: &Run, mantissas: u32) -> [u32; 3]
+    requires exponents { exponents ≤ 600 }
+    requires mantissas { mantissas ≤ 2 ^ 16 }
+    ensures value { result ≡ costs_by_part exponents run.now mantissas }
+    ensures bound { (part : ℕ) → slice_index result part ≤ 2 ^ 19 }
+{
+    let sent = 6 * exponents;
+    let early = if run.from < 2 { sent } else { 0 };
+    [
+        early + in_blocks(2, run, mantissas),
+        sent + in_blocks(6, run, mantissas),
+        if has(run, 5) { mantissas } else { 0 },
+    ]
 }
 
 /// The side bits of the parts, with how many they can be.

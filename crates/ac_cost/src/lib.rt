@@ -3,6 +3,7 @@
 #![tactic(auto)]
 
 mod blocks;
+mod costs;
 mod laws;
 mod least;
 mod listed;
@@ -14,7 +15,11 @@ mod table;
 #[cfg(test)]
 mod tests;
 
+pub use blocks::{exponent_bits, run_costs};
+pub use costs::RunCosts;
 pub use laws::assignment_laws;
 pub use least::cheapest;
 pub use lists::RunLists;
+pub use parts::{assign_fits, assign_parts};
+pub use rows::{row, row_count, run_at};
 pub use table::RunTable;

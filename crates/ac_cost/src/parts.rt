@@ -13,9 +13,9 @@ ghost use Rattle.ac_cost.specs.Prices.{AreFew};
 ghost use Rattle.ac_cost.specs.Blocks.{counts_at, exponents_at, mantissas_at};
 
 use crate::blocks::{exponent_bits, has, side};
+use crate::costs::RunCosts;
 use crate::priced::NONE;
-use crate::table::RunTable;
-use ac_base::{Parts, Run};
+use ac_base::{Parts, Run, Shape};
 use ac_expo::{Assign, runs};
 use ac_mant::{Counts, exact};
 
@@ -92,82 +92,84 @@ fn first(blocks: usize, bits: &[u32; 6]) -> u32
     sum
 }
 
-impl RunTable {
-    /// The mantissas of a block, over all coded channels.
-    fn block_counts(&self, a: &Assign, block: u8) -> Counts
-        requires block { block ≤ 5 }
-        requires assign { IsAssignmentOf self.now.shape a.now.w }
-        ensures value { tally result ≡ counts_at self.now a.now.w block }
-        ensures bound { AreFew 7 result }
-    {
-        let mut counts = NONE;
-        for c in 0..self.shape.coded() {
-            counts = join(&counts, &self.run_counts(c, &run_in(a, c, block)));
-        }
-        counts
+/// The mantissas of a block, over all coded channels.
+fn block_counts<C: RunCosts>(shape: &Shape, costs: &C, a: &Assign, block: u8) -> Counts
+    requires same { (C.offset costs.now).shape ≡ shape.now }
+    requires block { block ≤ 5 }
+    requires assign { IsAssignmentOf shape.now a.now.w }
+    ensures value { tally result ≡ counts_at (C.offset costs.now) a.now.w block }
+    ensures bound { AreFew 7 result }
+{
+    let mut counts = NONE;
+    for c in 0..shape.coded() {
+        counts = join(&counts, &costs.run_counts(c, &run_in(a, c, block)));
     }
+    counts
+}
 
-    /// The exponent bits of a block, over all coded channels, by the channels' codes.
-    fn block_exponents(&self, codes: &[[u8; 6]; 7], block: u8) -> u32
-        requires block { block ≤ 5 }
-        requires assign { IsAssignmentOf self.now.shape codes.now }
-        ensures value { result ≡ exponents_at self.now codes.now block }
-        ensures bound { result ≤ 4200 }
-    {
-        let mut bits = 0;
-        for c in 0..self.shape.coded() {
-            let code = codes[c as usize][block as usize];
-            bits += exponent_bits(code, &self.shape.span(c));
-        }
-        bits
+/// The exponent bits of a block, over all coded channels, by the channels' codes.
+fn block_exponents(shape: &Shape, codes: &[[u8; 6]; 7], block: u8) -> u32
+    requires block { block ≤ 5 }
+    requires assign { IsAssignmentOf shape.now codes.now }
+    ensures value { result ≡ exponents_at shape.now codes.now block }
+    ensures bound { result ≤ 4200 }
+{
+    let mut bits = 0;
+    for c in 0..shape.coded() {
+        let code = codes[c as usize][block as usize];
+        bits += exponent_bits(code, &shape.span(c));
     }
+    bits
+}
 
-    /// The mantissas' bits of each block.
-    fn mantissas(&self, a: &Assign) -> [u32; 6]
-        requires assign { IsAssignmentOf self.now.shape a.now.w }
-        ensures value { (b : ℕ) → b < 6 → slice_index result b ≡ mantissas_at self.now a.now.w b }
-        ensures bound { (b : ℕ) → slice_index result b ≤ 2 ^ 16 }
-    {
-        let mut bits = [0; 6];
-        for block in 0..6u8 {
-            bits[block as usize] = mantissa_bits(&self.block_counts(a, block));
-        }
-        bits
+/// The mantissas' bits of each block.
+fn mantissas<C: RunCosts>(shape: &Shape, costs: &C, a: &Assign) -> [u32; 6]
+    requires same { (C.offset costs.now).shape ≡ shape.now }
+    requires assign { IsAssignmentOf shape.now a.now.w }
+    ensures value { (b : ℕ) → b < 6 → slice_index result b ≡ mantissas_at (C.offset costs.now) a.now.w b }
+    ensures bound { (b : ℕ) → slice_index result b ≤ 2 ^ 16 }
+{
+    let mut bits = [0; 6];
+    for block in 0..6u8 {
+        bits[block as usize] = mantissa_bits(&block_counts(shape, costs, a, block));
     }
+    bits
+}
 
-    /// The exponents' bits of each block, by the channels' codes.
-    fn exponents(&self, codes: &[[u8; 6]; 7]) -> [u32; 6]
-        requires assign { IsAssignmentOf self.now.shape codes.now }
-        ensures value { (b : ℕ) → b < 6 → slice_index result b ≡ exponents_at self.now codes.now b }
-        ensures bound { (b : ℕ) → slice_index result b ≤ 2 ^ 16 }
-    {
-        let mut bits = [0; 6];
-        for block in 0..6u8 {
-            bits[block as usize] = self.block_exponents(codes, block);
-        }
-        bits
+/// The exponents' bits of each block, by the channels' codes.
+fn exponents(shape: &Shape, codes: &[[u8; 6]; 7]) -> [u32; 6]
+    requires assign { IsAssignmentOf shape.now codes.now }
+    ensures value { (b : ℕ) → b < 6 → slice_index result b ≡ exponents_at shape.now codes.now b }
+    ensures bound { (b : ℕ) → slice_index result b ≤ 2 ^ 16 }
+{
+    let mut bits = [0; 6];
+    for block in 0..6u8 {
+        bits[block as usize] = block_exponents(shape, codes, block);
     }
+    bits
+}
 
-    /// The bits of the three parts of a frame with an assignment of strategies whose LFE codes are 0 and 1.
-    pub fn parts(&self, a: &Assign) -> Parts
-        requires low { TakesLow self.now.shape a.now.w }
-        ensures value { result ≡ parts_at self.now.shape self.now.raw self.now.t a.now.w }
-    {
-        let side = side(&self.shape);
-        let exponents = self.exponents(&codes(a));
-        let mantissas = self.mantissas(a);
-        Parts {
-            front: side.front + first(2, &exponents) + first(2, &mantissas),
-            total: side.total + first(6, &exponents) + first(6, &mantissas),
-            last: mantissas[5],
-        }
+/// The bits of the three parts of a frame with an assignment of strategies whose LFE codes are 0 and 1.
+pub fn assign_parts<C: RunCosts>(shape: &Shape, costs: &C, a: &Assign) -> Parts
+    requires same { (C.offset costs.now).shape ≡ shape.now }
+    requires low { TakesLow shape.now a.now.w }
+    ensures value { result ≡ parts_at shape.now (C.offset costs.now).raw (C.offset costs.now).t a.now.w }
+{
+    let side = side(shape);
+    let exponents = exponents(shape, &codes(a));
+    let mantissas = mantissas(shape, costs, a);
+    Parts {
+        front: side.front + first(2, &exponents) + first(2, &mantissas),
+        total: side.total + first(6, &exponents) + first(6, &mantissas),
+        last: mantissas[5],
     }
+}
 
-    /// Whether an assignment of strategies whose LFE codes are 0 and 1 fits the frame.
-    pub fn fits(&self, a: &Assign) -> bool
-        requires low { TakesLow self.now.shape a.now.w }
-        ensures value { IsTrue result ↔ FitsAt self.now.shape self.now.raw self.now.t a.now.w }
-    {
-        self.parts(a).fit(self.shape.words)
-    }
+/// Whether an assignment of strategies whose LFE codes are 0 and 1 fits the frame.
+pub fn assign_fits<C: RunCosts>(shape: &Shape, costs: &C, a: &Assign) -> bool
+    requires same { (C.offset costs.now).shape ≡ shape.now }
+    requires low { TakesLow shape.now a.now.w }
+    ensures value { IsTrue result ↔ FitsAt shape.now (C.offset costs.now).raw (C.offset costs.now).t a.now.w }
+{
+    assign_parts(shape, costs, a).fit(shape.words)
 }

@@ -1,17 +1,20 @@
 //! What the runs of a frame cost at an offset.
-ghost use Rattle.std.specs.Prelude.{◌≡◌, ◌<◌, ◌≤◌, ◌+◌, ◌*◌, ◌^◌, ℕ, slice_index};
+ghost use Rattle.std.specs.Prelude.{◌≡◌, ◌<◌, ◌≤◌, ◌+◌, ◌*◌, ◌^◌, ◌↔◌, IsTrue, ℕ, slice_index};
 ghost use Rattle.ac_mant.specs.Counts.{tally};
 ghost use Rattle.ac_cost.specs.Records.{at_offset};
-ghost use Rattle.ac_cost.specs.Runs.{IsRunOf};
+ghost use Rattle.ac_cost.specs.Parts.{parts_at, FitsAt};
+ghost use Rattle.ac_cost.specs.Runs.{IsRunOf, TakesLow};
 ghost use Rattle.ac_cost.specs.Prices.{AreFew};
 ghost use Rattle.ac_cost.specs.Pointers.{run_tally};
 ghost use Rattle.ac_cost.specs.Sixths.{run_bits, sixths_by_part};
 
-use crate::blocks::{exponent_bits, has, in_blocks};
+use crate::blocks::{exponent_bits, run_costs};
+use crate::costs::RunCosts;
 use crate::lists::RunLists;
+use crate::parts::{assign_fits, assign_parts};
 use crate::rows::row;
-use ac_base::{Run, Shape};
-use ac_expo::RawExps;
+use ac_base::{Parts, Run, Shape};
+use ac_expo::{Assign, RawExps};
 use ac_mant::{Counts, sixths};
 use std::marker::Model;
 
@@ -71,12 +74,33 @@ impl RunTable {
         ensures bound { (part : ℕ) → slice_index result part ≤ 2 ^ 19 }
     {
         let mantissas = sixths(&self.run_counts(channel, run));
-        let exponents = 6 * self.run_exponents(channel, run);
-        let early = if run.from < 2 { exponents } else { 0 };
-        [
-            early + in_blocks(2, run, mantissas),
-            exponents + in_blocks(6, run, mantissas),
-            if has(run, 5) { mantissas } else { 0 },
-        ]
+        run_costs(self.run_exponents(channel, run), run, mantissas)
+    }
+    /// The bits of the three parts of a frame with an assignment of strategies whose LFE codes are 0 and 1.
+    pub fn parts(&self, a: &Assign) -> Parts
+        requires low { TakesLow self.now.shape a.now.w }
+        ensures value { result ≡ parts_at self.now.shape self.now.raw self.now.t a.now.w }
+    {
+        assign_parts(&self.shape, self, a)
+    }
+
+    /// Whether an assignment of strategies whose LFE codes are 0 and 1 fits the frame.
+    pub fn fits(&self, a: &Assign) -> bool
+        requires low { TakesLow self.now.shape a.now.w }
+        ensures value { IsTrue result ↔ FitsAt self.now.shape self.now.raw self.now.t a.now.w }
+    {
+        assign_fits(&self.shape, self, a)
+    }
+}
+
+impl RunCosts for RunTable {
+    ghost offset = { λ v. v };
+
+    fn run_counts(&self, channel: u8, run: &Run) -> Counts {
+        RunTable::run_counts(self, channel, run)
+    }
+
+    fn run_sixths(&self, channel: u8, run: &Run) -> [u32; 3] {
+        RunTable::run_sixths(self, channel, run)
     }
 }

@@ -14,6 +14,8 @@ use Rattle.ac_seek.proofs.Truths.{size-exists}
 use Rattle.ac_plan.specs.declared.answer.Plan.{Plan}
 use Rattle.ac_plan.specs.declared.answer.Mark.{Mark}
 use Rattle.ac_plan.specs.declared.answer.Mark.TheVariants.{Best, Bounded}
+use Rattle.ac_plan.specs.declared.window.Held.{Held}
+use Rattle.ac_plan.specs.Helds.{IsHeld}
 use Rattle.ac_plan.specs.Uniform.{UniformFits, NoneUniform, IsFloor}
 use Rattle.ac_plan.specs.Plans.{NoneFitsAbove, IsBest, nodes_from, AreOver, IsCutShort, IsMarked, IsLawful, IsMarkedAt, IsUniformPlan}
 use Rattle.ac_plan.proofs.Floors.{feasible}
@@ -67,6 +69,11 @@ over shape raw nodes r t left n l is more spent =
       sizes = λ s low high. are s;
       over = omega (arith, more, same, x, first_of size t (r - t), spent size are);
     }
+
+-- ---- windows
+-- what is held for an offset serves lower ones
+pub held_down : (shape : Shape) (raw : List (List (List ℕ))) (t u : ℕ) (held : Held) → u ≤ t → IsHeld shape raw t held → IsHeld shape raw u held
+held_down shape raw t u held l is = record { first = is.first; window = is.window; ways = is.ways; reach = omega (arith, l, is.reach) }
 
 -- ---- plans
 pub best_lawful : (shape : Shape) (raw : List (List (List ℕ))) (nodes t : ℕ) (plan : Plan) (assign : List (List ℕ)) → t ≤ 1023 → IsAssignmentOf shape assign → FitsAt shape raw t assign → NoneFitsAbove shape raw t → plan.offset ≡ t → plan.assign.w ≡ assign → plan.mark ≡ Best → IsLawful shape raw nodes plan

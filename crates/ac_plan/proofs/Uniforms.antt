@@ -35,7 +35,7 @@ low_each (a ∷ b ∷ c ∷ d ∷ []) long = absurd (omega (arith, long))
 low_each (a ∷ b ∷ c ∷ d ∷ e ∷ []) long = absurd (omega (arith, long))
 low_each (a ∷ b ∷ c ∷ d ∷ e ∷ f ∷ g ∷ w) long = absurd (omega (arith, long))
 
-some_code : (k : ℕ) → eqb (suc k) 0 ≡ false
+pub some_code : (k : ℕ) → eqb (suc k) 0 ≡ false
 some_code k = ne_eqb (suc k) 0 (omega arith)
 
 code_few : (k : ℕ) → low_code k ≤ 1

@@ -8,7 +8,7 @@ use Rattle.ac_cost.specs.Records.{at_offset}
 use Rattle.ac_cost.specs.Runs.{IsAssignmentOf}
 use Rattle.ac_bound.specs.Roots.{IsRoot}
 use Rattle.ac_seek.specs.Words.{IsTreeSize}
-pub use Rattle.ac_single.specs.Best.{NoneFitsAbove, IsBest}
+pub use Rattle.ac_plan.specs.Best.{NoneFitsAbove, IsBest}
 use Rattle.ac_plan.specs.declared.answer.Plan.{Plan}
 use Rattle.ac_plan.specs.declared.answer.Mark.{Mark}
 use Rattle.ac_plan.specs.declared.answer.Mark.TheVariants.{Best, Bounded}

@@ -4,11 +4,15 @@
 
 mod answer;
 mod floor;
+mod held;
 mod laws;
 mod search;
+mod slice;
 #[cfg(test)]
 mod tests;
+mod totals;
 mod uniform;
+mod window;
 
 pub use ac_seek::{Seek, seek};
 pub use answer::{Mark, Plan};

@@ -1,19 +1,25 @@
 //! The search for the greatest offset at which some assignment fits, within a budget.
-ghost use Rattle.std.specs.Prelude.{◌≡◌, ◌≤◌};
+ghost use Rattle.std.specs.Prelude.{◌≡◌, ◌≤◌, IfSome, IsNone};
 ghost use Rattle.ac_expo.specs.Raw.{channels};
-ghost use Rattle.ac_cost.specs.Parts.{FitsAt, cheapest_assign};
+ghost use Rattle.ac_cost.specs.Parts.{FitsAt, IsFeasible, cheapest_assign};
+ghost use Rattle.ac_cost.specs.Runs.{IsAssignmentOf};
 ghost use Rattle.ac_bound.specs.Roots.{IsRoot};
 ghost use Rattle.ac_plan.specs.declared.answer.Mark.TheVariants.{Best};
+ghost use Rattle.ac_plan.specs.Helds.{IsHeld};
 ghost use Rattle.ac_plan.specs.Plans.{IsLawful};
 
 use crate::answer::{Mark, Plan};
-use crate::floor::uniform_plan;
+use crate::floor::{cheapest, uniform_plan};
+use crate::held::{load, seek_at};
+use crate::window::{Held, NOTHING};
 use ac_base::Shape;
-use ac_bound::{Pots, root};
-use ac_cost::RunLists;
 use ac_expo::{Assign, RawExps};
-use ac_seek::{Seek, seek};
-use ac_single::single_best;
+use ac_seek::Seek;
+use ac_ways::root;
+use ac_windows::RunRows;
+
+/// A tree of one coded channel has no more nodes.
+const MOST: u32 = 4096;
 
 /// A plan that is the best.
 fn best(offset: u16, assign: Assign) -> Plan
@@ -28,50 +34,65 @@ fn best(offset: u16, assign: Assign) -> Plan
     }
 }
 
-/// The plan of a frame with one coded channel, which is the best whatever the budget.
-fn plan_single(shape: &Shape, raw: &RawExps, nodes: u32) -> Plan
+/// An assignment of a frame with one coded channel that fits at an offset, if any does. Its tree has at most 4,096 nodes.
+fn find_one(shape: &Shape, rows: &RunRows, held: &mut Held, t: u16) -> Option<Assign>
     requires one { channels shape.now ≡ 1 }
-    requires cheapest { FitsAt shape.now raw.now.e 0 (cheapest_assign shape.now) }
-    ensures lawful { IsLawful shape.now raw.now.e nodes result }
+    requires same { rows.now.shape ≡ shape.now }
+    requires top { t ≤ 1023 }
+    requires held { IsHeld shape.now rows.now.raw t held.old }
+    ensures held { IsHeld shape.now rows.now.raw t held.new }
+    ensures assignment { IfSome result (λ a. IsAssignmentOf shape.now a.w) }
+    ensures fits { IfSome result (λ a. FitsAt shape.now rows.now.raw t a.w) }
+    ensures none { IsNone result → IsFeasible shape.now rows.now.raw t → ⊥ }
+{
+    match seek_at(shape, rows, held, t, MOST) {
+        Seek::Fits(assign) => Some(assign),
+        Seek::Never { used: _ } => None,
+        Seek::Spent => None,
+    }
+}
+
+/// Searches the offsets of a frame with one coded channel from the root offset downwards, whatever the budget.
+fn descend_one(shape: &Shape, rows: &RunRows, held: &mut Held, root: u16, nodes: u32) -> Plan
+    requires one { channels shape.now ≡ 1 }
+    requires same { rows.now.shape ≡ shape.now }
+    requires cheapest { FitsAt shape.now rows.now.raw 0 (cheapest_assign shape.now) }
+    requires root { IsRoot shape.now rows.now.raw root }
+    requires held { IsHeld shape.now rows.now.raw root held.old }
+    ensures lawful { IsLawful shape.now rows.now.raw nodes result }
     ensures mark { result.mark ≡ Best }
 {
-    let (offset, word) = single_best(shape, raw);
-    best(offset, Assign { w: [word; 7] })
+    let mut t = root;
+    while t > 0 {
+        if let Some(assign) = find_one(shape, rows, held, t) {
+            return best(t, assign);
+        }
+        t -= 1;
+    }
+    best(0, cheapest(shape))
 }
 
 /// Searches the trees of the offsets from the root offset downwards. An offset that doesn't fit says nothing of the next.
-fn descend(shape: &Shape, lists: &RunLists, root: u16, nodes: u32) -> Plan
+fn descend(shape: &Shape, rows: &RunRows, held: &mut Held, root: u16, nodes: u32) -> Plan
     requires several { 2 ≤ channels shape.now }
-    requires same { lists.now.shape ≡ shape.now }
-    requires cheapest { FitsAt shape.now lists.now.raw 0 (cheapest_assign shape.now) }
-    requires root { IsRoot shape.now lists.now.raw root }
+    requires same { rows.now.shape ≡ shape.now }
+    requires cheapest { FitsAt shape.now rows.now.raw 0 (cheapest_assign shape.now) }
+    requires root { IsRoot shape.now rows.now.raw root }
+    requires held { IsHeld shape.now rows.now.raw root held.old }
     requires nodes { nodes ≤ 10000000 }
-    ensures lawful { IsLawful shape.now lists.now.raw nodes result }
+    ensures lawful { IsLawful shape.now rows.now.raw nodes result }
 {
     let mut left = nodes;
     let mut t = root;
     while t > 0 {
-        let table = lists.at(t);
-        match seek(shape, &table, &Pots::of(shape, &table), left) {
+        match seek_at(shape, rows, held, t, left) {
             Seek::Fits(assign) => return best(t, assign),
             Seek::Never { used } => left -= used,
-            Seek::Spent => return uniform_plan(shape, lists, t),
+            Seek::Spent => return uniform_plan(shape, rows, held, t),
         }
         t -= 1;
     }
-    uniform_plan(shape, lists, 0)
-}
-
-/// The plan of a frame with several coded channels.
-fn plan_several(shape: &Shape, raw: &RawExps, nodes: u32) -> Plan
-    requires several { 2 ≤ channels shape.now }
-    requires cheapest { FitsAt shape.now raw.now.e 0 (cheapest_assign shape.now) }
-    requires nodes { nodes ≤ 10000000 }
-    ensures lawful { IsLawful shape.now raw.now.e nodes result }
-{
-    let lists = RunLists::of(shape, raw);
-    let root = root(shape, &lists);
-    descend(shape, &lists, root, nodes)
+    uniform_plan(shape, rows, held, 0)
 }
 
 /// The greatest offset at which some assignment fits a frame, and one that does, by the frame's raw exponents, where the cheapest
@@ -84,9 +105,14 @@ pub fn plan(shape: &Shape, raw: &RawExps, nodes: u32) -> Plan
     ensures lawful { IsLawful shape.now raw.now.e nodes result }
     ensures one { channels shape.now ≡ 1 → result.mark ≡ Best }
 {
+    let rows = RunRows::of(shape, raw);
+    let nothing = &NOTHING;
+    let mut held = *nothing;
+    let root = root(shape, &rows, &mut held.window);
+    load(shape, &rows, root, &mut held);
     if shape.coded() == 1 {
-        plan_single(shape, raw, nodes)
+        descend_one(shape, &rows, &mut held, root, nodes)
     } else {
-        plan_several(shape, raw, nodes)
+        descend(shape, &rows, &mut held, root, nodes)
     }
 }

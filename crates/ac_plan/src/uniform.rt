@@ -1,11 +1,14 @@
 //! Uniform assignments: one word for all coded channels but LFE, which sends where that word does.
-ghost use Rattle.std.specs.Prelude.{◌≡◌, ◌==◌, if◌then◌else◌, IfSome, IsNone};
+ghost use Rattle.std.specs.Prelude.{◌≡◌, ◌==◌, if◌then◌else◌, ℕ, List, IfSome, IsNone};
 ghost use Rattle.ac_base.specs.Words.{IsWord, low_word};
 ghost use Rattle.ac_cost.specs.Parts.{FitsAt};
+ghost use Rattle.ac_plan.specs.Totals.{AreTotals, AreFewTotals, AreSides};
 ghost use Rattle.ac_plan.specs.Uniform.{IsUniformBy, IsUniformOf, UniformFits};
 
+use crate::totals::{others, sides, sixths, totals};
 use ac_base::Shape;
-use ac_cost::RunTable;
+use ac_bound::is_over;
+use ac_cost::{RunCosts, assign_fits};
 use ac_expo::{Assign, Word, word_at};
 
 /// How many words there are.
@@ -47,22 +50,51 @@ pub fn uniform(shape: &Shape, word: &Word) -> Assign
 {
     let mut w = [*word; 7];
     if shape.lfe {
-        let last = shape.full() + u8::from(shape.couple.is_some());
-        w[usize::from(last)] = beside(word);
+        w[usize::from(others(shape))] = beside(word);
     }
     Assign { w }
 }
 
-/// A uniform assignment that fits at the offset of a table, if any does.
-pub fn find(shape: &Shape, table: &RunTable) -> Option<Assign>
-    requires { table.now.shape ≡ shape.now }
-    ensures some { IfSome result (λ a. IsUniformOf shape.now a.w) }
-    ensures fits { IfSome result (λ a. FitsAt shape.now table.now.raw table.now.t a.w) }
-    ensures none { IsNone result → UniformFits shape.now table.now.raw table.now.t → ⊥ }
+/// The uniform assignment of a word, where it fits. The bits of one whose sixths are over the room aren't counted, as it can't fit.
+fn fitting<C: RunCosts>(
+    shape: &Shape,
+    costs: &C,
+    sides: &[u64; 3],
+    totals: &[[u32; 3]; 63],
+    word: &Word,
+) -> Option<Assign>
+    requires same { (C.offset costs.now).shape ≡ shape.now }
+    requires sides { AreSides shape.now sides.now }
+    requires totals { AreTotals (C.offset costs.now) totals.now }
+    requires few { AreFewTotals totals.now }
+    requires word { IsWord word.now }
+    ensures some { IfSome result (λ a. IsUniformBy shape.now word.now a.w) }
+    ensures fits { IfSome result (λ a. FitsAt shape.now (C.offset costs.now).raw (C.offset costs.now).t a.w) }
+    ensures none { IsNone result → (assign : List (List ℕ)) → IsUniformBy shape.now word.now assign
+        → FitsAt shape.now (C.offset costs.now).raw (C.offset costs.now).t assign → ⊥ }
 {
+    if is_over(shape, &sixths(sides, totals, word)) {
+        return None;
+    }
+    let assign = uniform(shape, word);
+    if assign_fits(shape, costs, &assign) {
+        Some(assign)
+    } else {
+        None
+    }
+}
+
+/// A uniform assignment that fits at an offset, if any does.
+pub fn find<C: RunCosts>(shape: &Shape, costs: &C) -> Option<Assign>
+    requires { (C.offset costs.now).shape ≡ shape.now }
+    ensures some { IfSome result (λ a. IsUniformOf shape.now a.w) }
+    ensures fits { IfSome result (λ a. FitsAt shape.now (C.offset costs.now).raw (C.offset costs.now).t a.w) }
+    ensures none { IsNone result → UniformFits shape.now (C.offset costs.now).raw (C.offset costs.now).t → ⊥ }
+{
+    let sides = sides(shape);
+    let totals = totals(shape, costs);
     for i in 0..WORDS {
-        let assign = uniform(shape, &word_at(i));
-        if table.fits(&assign) {
+        if let Some(assign) = fitting(shape, costs, &sides, &totals, &word_at(i)) {
             return Some(assign);
         }
     }

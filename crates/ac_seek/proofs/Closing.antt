@@ -93,9 +93,9 @@ limit-test room base spent rest limit sum el es = elim (cases_lt room (base + sp
   | inr m ↦ lt-leb limit sum (omega arith) ∙ sym (le-ltb room (base + spent + rest) m)
 ]
 
-pub over-is : (board : Board) (pot : ℕ → ℕ → ℕ → ℕ) (path : List Step) (partial : Partial) (part : ℕ) → IsBoard board → ArePots board.table.now pot → Holds (game_of board.table.now) path partial → part < 3 → nat_le (slice_index (slice_index_or board.limits (6 * partial.done + partial.at) []) part) (slice_index partial.spent part) ≡ over (game_of board.table.now) pot part path
-over-is board pot path partial part is are held p =
-    let v = board.table.now in
+pub over-is : {C : Type 0} (offset : C → AtOffset) (board : Board C) (pot : ℕ → ℕ → ℕ → ℕ) (path : List Step) (partial : Partial) (part : ℕ) → IsBoard offset board → ArePots (offset board.table.now) pot → Holds (game_of (offset board.table.now)) path partial → part < 3 → nat_le (slice_index (slice_index_or board.limits (6 * partial.done + partial.at) []) part) (slice_index partial.spent part) ≡ over (game_of (offset board.table.now)) pot part path
+over-is offset board pot path partial part is are held p =
+    let v = offset board.table.now in
     let g = game_of v in
     let short = IsShort-path g path held.valid in
     let few = coded-few v.shape in
@@ -105,6 +105,6 @@ over-is board pot path partial part is are held p =
     let limit = is.limits pot are (6 * partial.done + partial.at) place (channel_of path) (boundary_of path) part low p same in
     limit-test (g.room part) (g.base part) (spent g part path) (rest g pot part (channel_of path) (boundary_of path)) (slice_index (slice_index_or board.limits (6 * partial.done + partial.at) []) part) (slice_index partial.spent part) limit (held.right part p)
 
-pub closed-is : (board : Board) (pot : ℕ → ℕ → ℕ → ℕ) (path : List Step) (partial : Partial) → IsBoard board → ArePots board.table.now pot → Holds (game_of board.table.now) path partial → (nat_le (slice_index (slice_index_or board.limits (6 * partial.done + partial.at) []) 0) (slice_index partial.spent 0) || nat_le (slice_index (slice_index_or board.limits (6 * partial.done + partial.at) []) 1) (slice_index partial.spent 1) || nat_le (slice_index (slice_index_or board.limits (6 * partial.done + partial.at) []) 2) (slice_index partial.spent 2)) ≡ closed (game_of board.table.now) pot path
-closed-is board pot path partial is are held =
-    ap₂ (λ (a b : Bool). a || b) (ap₂ (λ (a b : Bool). a || b) (over-is board pot path partial 0 is are held (omega arith)) (over-is board pot path partial 1 is are held (omega arith))) (over-is board pot path partial 2 is are held (omega arith))
+pub closed-is : {C : Type 0} (offset : C → AtOffset) (board : Board C) (pot : ℕ → ℕ → ℕ → ℕ) (path : List Step) (partial : Partial) → IsBoard offset board → ArePots (offset board.table.now) pot → Holds (game_of (offset board.table.now)) path partial → (nat_le (slice_index (slice_index_or board.limits (6 * partial.done + partial.at) []) 0) (slice_index partial.spent 0) || nat_le (slice_index (slice_index_or board.limits (6 * partial.done + partial.at) []) 1) (slice_index partial.spent 1) || nat_le (slice_index (slice_index_or board.limits (6 * partial.done + partial.at) []) 2) (slice_index partial.spent 2)) ≡ closed (game_of (offset board.table.now)) pot path
+closed-is offset board pot path partial is are held =
+    ap₂ (λ (a b : Bool). a || b) (ap₂ (λ (a b : Bool). a || b) (over-is offset board pot path partial 0 is are held (omega arith)) (over-is offset board pot path partial 1 is are held (omega arith))) (over-is offset board pot path partial 2 is are held (omega arith))

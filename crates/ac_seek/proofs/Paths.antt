@@ -79,19 +79,19 @@ next-run v channel at s ok =
 pub place-few : (s : Step) → s.channel < 7 → s.run.from < s.run.to → s.run.to ≤ 6 → 1 ≤ s.run.kind → s.run.kind ≤ 3 → place_of s < 882
 place-few s c o b m k = omega arith
 
-pub board-cost : (board : Board) (channel at part : ℕ) (s : Step) → IsBoard board → IsNext (game_of board.table.now) channel at s → part < 3 → slice_index (slice_index_or board.costs (place_of s) []) part ≡ (game_of board.table.now).cost part s
-board-cost board channel at part s is ok p =
-    let run = next-run board.table.now channel at s ok in
-    let few : s.channel < 7 = omega (arith, run.channel, coded-few board.table.now.shape) in
+pub board-cost : {C : Type 0} (offset : C → AtOffset) (board : Board C) (channel at part : ℕ) (s : Step) → IsBoard offset board → IsNext (game_of (offset board.table.now)) channel at s → part < 3 → slice_index (slice_index_or board.costs (place_of s) []) part ≡ (game_of (offset board.table.now)).cost part s
+board-cost offset board channel at part s is ok p =
+    let run = next-run (offset board.table.now) channel at s ok in
+    let few : s.channel < 7 = omega (arith, run.channel, coded-few (offset board.table.now).shape) in
     is.costs (place_of s) (place-few s few run.is_run.order run.is_run.blocks run.is_run.some run.is_run.kind) s part run p refl
 
-pub board-row : (board : Board) (channel at k : ℕ) (s : Step) → IsBoard board → IsNext (game_of board.table.now) channel at s → k ≡ place_of s → (part : ℕ) → part < 3 → slice_index (slice_index_or board.costs k []) part ≡ (game_of board.table.now).cost part s
-board-row board channel at k s is ok e part p =
-    ap (λ i. slice_index (slice_index_or board.costs i []) part) e ∙ board-cost board channel at part s is ok p
+pub board-row : {C : Type 0} (offset : C → AtOffset) (board : Board C) (channel at k : ℕ) (s : Step) → IsBoard offset board → IsNext (game_of (offset board.table.now)) channel at s → k ≡ place_of s → (part : ℕ) → part < 3 → slice_index (slice_index_or board.costs k []) part ≡ (game_of (offset board.table.now)).cost part s
+board-row offset board channel at k s is ok e part p =
+    ap (λ i. slice_index (slice_index_or board.costs i []) part) e ∙ board-cost offset board channel at part s is ok p
 
-pub board-cheap : (board : Board) → IsBoard board → IsCheap (game_of board.table.now)
-board-cheap board is part channel at s p ok =
-    omega (arith, board-cost board channel at part s is ok p, is.small (place_of s) part)
+pub board-cheap : {C : Type 0} (offset : C → AtOffset) (board : Board C) → IsBoard offset board → IsCheap (game_of (offset board.table.now))
+board-cheap offset board is part channel at s p ok =
+    omega (arith, board-cost offset board channel at part s is ok p, is.small (place_of s) part)
 
 -- ---- one run more, and one less
 pub Holds-add : (g : Game) (path : List Step) (old new : Partial) (s : Step) (row : List ℕ) → Holds g path old → IsNext g (channel_of path) (boundary_of path) s → ((part : ℕ) → part < 3 → slice_index row part ≡ g.cost part s) → new.done ≡ channel_after s → new.at ≡ boundary_after s → ((part : ℕ) → part < 3 → slice_index new.spent part ≡ slice_index old.spent part + slice_index row part) → Holds g (s ∷ path) new

@@ -49,12 +49,12 @@ HasLimit shape pot place row =
 abbrev pub AreLimits : Shape → (ℕ → ℕ → ℕ → ℕ) → List (List ℕ) → Type 0
 AreLimits shape pot limits = (place : ℕ) → place < 48 → HasLimit shape pot place (slice_index_or limits place [])
 
--- all of it, at the offset of the table
-pub record IsBoard (board : Board) : Type 0 where
-  pub same : board.table.now.shape ≡ board.shape.now
-  pub costs : AreCosts board.table.now board.costs
+-- all of it, at the offset of what tells the costs
+pub record IsBoard {C : Type 0} (offset : C → AtOffset) (board : Board C) : Type 0 where
+  pub same : (offset board.table.now).shape ≡ board.shape.now
+  pub costs : AreCosts (offset board.table.now) board.costs
   pub small : AreSmall board.costs
-  pub limits : (pot : ℕ → ℕ → ℕ → ℕ) → ArePots board.table.now pot → AreLimits board.table.now.shape pot board.limits
+  pub limits : (pot : ℕ → ℕ → ℕ → ℕ) → ArePots (offset board.table.now) pot → AreLimits (offset board.table.now).shape pot board.limits
 
 -- what is decided at a place, with nothing spent; behind the last channel nothing is in hand
 pub record IsStand (shape : Shape) (place : ℕ) (partial : Partial) : Type 0 where

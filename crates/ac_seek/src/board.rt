@@ -10,7 +10,7 @@ ghost use Rattle.ac_seek.specs.Boards.{place_of, HasCost, AreCosts, AreSmall, Ha
 use crate::step::Step;
 use ac_base::{Lead, Run, Shape, rooms};
 use ac_bound::{Partial, Pots, lower};
-use ac_cost::RunTable;
+use ac_cost::RunCosts;
 
 /// How many places there are for runs.
 const PLACES: usize = 882;
@@ -20,9 +20,9 @@ const BOUNDARIES: usize = 48;
 
 /// The sixths of each run, and the least spent sixths that close a partial assignment at each boundary of a channel, in each part.
 #[derive(Drop)]
-pub struct Board<'a> {
+pub struct Board<'a, C> {
     pub shape: &'a Shape,
-    pub table: &'a RunTable,
+    pub table: &'a C,
     pub costs: [[u32; 3]; 882],
     pub limits: [[u64; 3]; 48],
 }
@@ -63,10 +63,10 @@ fn is_run(shape: &Shape, channel: u8, run: &Run) -> bool
 }
 
 /// The sixths of the run of a place, in each part.
-fn cost(shape: &Shape, table: &RunTable, place: usize) -> [u32; 3]
-    requires same { table.now.shape ≡ shape.now }
+fn cost<C: RunCosts>(shape: &Shape, table: &C, place: usize) -> [u32; 3]
+    requires same { (C.offset table.now).shape ≡ shape.now }
     requires place { place < 882 }
-    ensures value { HasCost table.now place result }
+    ensures value { HasCost (C.offset table.now) place result }
     ensures small { (part : ℕ) → slice_index result part ≤ 2 ^ 19 }
 {
     let channel = (place / 126) as u8;
@@ -83,9 +83,9 @@ fn cost(shape: &Shape, table: &RunTable, place: usize) -> [u32; 3]
 }
 
 /// Those of all places.
-fn costs(shape: &Shape, table: &RunTable) -> [[u32; 3]; 882]
-    requires { table.now.shape ≡ shape.now }
-    ensures value { AreCosts table.now result }
+fn costs<C: RunCosts>(shape: &Shape, table: &C) -> [[u32; 3]; 882]
+    requires { (C.offset table.now).shape ≡ shape.now }
+    ensures value { AreCosts (C.offset table.now) result }
     ensures small { AreSmall result }
 {
     let mut costs = [[0; 3]; PLACES];
@@ -150,12 +150,12 @@ fn limits(shape: &Shape, pots: &Pots) -> [[u64; 3]; 48]
     limits
 }
 
-impl<'a> Board<'a> {
+impl<'a, C: RunCosts> Board<'a, C> {
     /// What a search at the offset of a table looks up.
-    pub fn of(shape: &'a Shape, table: &'a RunTable, pots: &Pots) -> Board<'a>
-        requires same { table.now.shape ≡ shape.now }
-        requires potentials { ArePots table.now (potential pots.now.p) }
-        ensures board { IsBoard result }
+    pub fn of(shape: &'a Shape, table: &'a C, pots: &Pots) -> Board<'a, C>
+        requires same { (C.offset table.now).shape ≡ shape.now }
+        requires potentials { ArePots (C.offset table.now) (potential pots.now.p) }
+        ensures board { IsBoard C.offset result }
         ensures table { result.table.now ≡ table.now }
     {
         Board {

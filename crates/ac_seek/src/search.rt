@@ -11,12 +11,12 @@ use crate::path::Path;
 use crate::walk::{Turn, look};
 use ac_base::Shape;
 use ac_bound::{Partial, Pots};
-use ac_cost::RunTable;
+use ac_cost::RunCosts;
 
 /// Searches the tree with at most so many nodes.
-fn walk(board: &Board, nodes: u32) -> Seek
-    requires { IsBoard board.now }
-    ensures { IsFound board.now.table.now nodes result }
+fn walk<C: RunCosts>(board: &Board<C>, nodes: u32) -> Seek
+    requires { IsBoard C.offset board.now }
+    ensures { IsFound (C.offset board.now.table.now) nodes result }
 {
     let mut path = Path::new();
     let mut partial = Partial {
@@ -34,12 +34,12 @@ fn walk(board: &Board, nodes: u32) -> Seek
     Seek::Spent
 }
 
-/// Searches the tree of the one offset of a table, by its potentials, with at most so many nodes, for an assignment that fits.
-pub fn seek(shape: &Shape, table: &RunTable, pots: &Pots, nodes: u32) -> Seek
-    requires same { table.now.shape ≡ shape.now }
-    requires potentials { ArePots table.now (potential pots.now.p) }
+/// Searches the tree of one offset, by what runs cost there and by its potentials, with at most so many nodes, for an assignment that fits.
+pub fn seek<C: RunCosts>(shape: &Shape, table: &C, pots: &Pots, nodes: u32) -> Seek
+    requires same { (C.offset table.now).shape ≡ shape.now }
+    requires potentials { ArePots (C.offset table.now) (potential pots.now.p) }
     requires nodes { nodes ≤ 10000000 }
-    ensures value { Answers table.now nodes result }
+    ensures value { Answers (C.offset table.now) nodes result }
 {
     walk(&Board::of(shape, table, pots), nodes)
 }

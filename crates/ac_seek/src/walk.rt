@@ -14,6 +14,7 @@ use crate::step::Step;
 use crate::words::{assignment, codes};
 use ac_base::Run;
 use ac_bound::Partial;
+use ac_cost::{RunCosts, assign_fits};
 use ac_expo::Assign;
 
 /// The first run that may come next.
@@ -32,12 +33,12 @@ fn first(partial: &Partial) -> Step
 }
 
 /// The run behind this one in the order of those that may come in its place.
-fn sibling(board: &Board, step: &Step) -> Option<Step>
-    requires board { IsBoard board.now }
-    requires run { IsNext (game_of board.now.table.now) step.now.channel step.now.run.from step.now }
-    ensures next { let kinds = (game_of board.now.table.now).kinds in
+fn sibling<C: RunCosts>(board: &Board<C>, step: &Step) -> Option<Step>
+    requires board { IsBoard C.offset board.now }
+    requires run { IsNext (game_of (C.offset board.now.table.now)) step.now.channel step.now.run.from step.now }
+    ensures next { let kinds = (game_of (C.offset board.now.table.now)).kinds in
         MatchOption result (later_steps kinds step.now ≡ []) (λ next. later_steps kinds step.now ≡ next ∷ later_steps kinds next) }
-    ensures fine { IfSome result (λ next. IsNext (game_of board.now.table.now) step.now.channel step.now.run.from next) }
+    ensures fine { IfSome result (λ next. IsNext (game_of (C.offset board.now.table.now)) step.now.channel step.now.run.from next) }
 {
     let run = step.run;
     if run.kind < kinds(board.shape, step.channel) {
@@ -101,12 +102,12 @@ fn less(a: &[u64; 3], b: &[u32; 3]) -> [u64; 3]
 }
 
 /// Decides one run more.
-fn add(board: &Board, path: &mut Path, partial: &mut Partial, step: Step)
-    requires board { IsBoard board.now }
-    requires held { Holds (game_of board.now.table.now) path.old partial.old }
-    requires next { IsNext (game_of board.now.table.now) (channel_of path.old) (boundary_of path.old) step }
+fn add<C: RunCosts>(board: &Board<C>, path: &mut Path, partial: &mut Partial, step: Step)
+    requires board { IsBoard C.offset board.now }
+    requires held { Holds (game_of (C.offset board.now.table.now)) path.old partial.old }
+    requires next { IsNext (game_of (C.offset board.now.table.now)) (channel_of path.old) (boundary_of path.old) step }
     ensures path { path.new ≡ step ∷ path.old }
-    ensures held { Holds (game_of board.now.table.now) path.new partial.new }
+    ensures held { Holds (game_of (C.offset board.now.table.now)) path.new partial.new }
 {
     let (done, at) = after(&step);
     let cost = board.costs[place(&step)];
@@ -116,11 +117,11 @@ fn add(board: &Board, path: &mut Path, partial: &mut Partial, step: Step)
 }
 
 /// Takes the latest run back.
-fn take(board: &Board, path: &mut Path, partial: &mut Partial) -> Option<Step>
-    requires board { IsBoard board.now }
-    requires held { Holds (game_of board.now.table.now) path.old partial.old }
+fn take<C: RunCosts>(board: &Board<C>, path: &mut Path, partial: &mut Partial) -> Option<Step>
+    requires board { IsBoard C.offset board.now }
+    requires held { Holds (game_of (C.offset board.now.table.now)) path.old partial.old }
     ensures path { MatchOption result ((path.old ≡ []) × (path.new ≡ [])) (λ step. path.old ≡ step ∷ path.new) }
-    ensures held { Holds (game_of board.now.table.now) path.new partial.new }
+    ensures held { Holds (game_of (C.offset board.now.table.now)) path.new partial.new }
 {
     let step = path.pop()?;
     let cost = board.costs[place(&step)];
@@ -134,13 +135,13 @@ fn take(board: &Board, path: &mut Path, partial: &mut Partial) -> Option<Step>
 }
 
 /// Goes to the next partial assignment that is to be looked at, and says whether there is one.
-fn advance(board: &Board, path: &mut Path, partial: &mut Partial) -> bool
-    requires board { IsBoard board.now }
-    requires held { Holds (game_of board.now.table.now) path.old partial.old }
-    ensures next { let kinds = (game_of board.now.table.now).kinds in
+fn advance<C: RunCosts>(board: &Board<C>, path: &mut Path, partial: &mut Partial) -> bool
+    requires board { IsBoard C.offset board.now }
+    requires held { Holds (game_of (C.offset board.now.table.now)) path.old partial.old }
+    ensures next { let kinds = (game_of (C.offset board.now.table.now)).kinds in
         IsTrue result → laters kinds path.old ≡ path.new ∷ laters kinds path.new }
-    ensures end { IsFalse result → laters (game_of board.now.table.now).kinds path.old ≡ [] }
-    ensures held { Holds (game_of board.now.table.now) path.new partial.new }
+    ensures end { IsFalse result → laters (game_of (C.offset board.now.table.now)).kinds path.old ≡ [] }
+    ensures held { Holds (game_of (C.offset board.now.table.now)) path.new partial.new }
 {
     while let Some(step) = take(board, path, partial) {
         if let Some(next) = sibling(board, &step) {
@@ -152,7 +153,7 @@ fn advance(board: &Board, path: &mut Path, partial: &mut Partial) -> bool
 }
 
 /// Whether the lower bound of a partial assignment is over the room in some part.
-fn is_closed(board: &Board, partial: &Partial) -> bool
+fn is_closed<C: RunCosts>(board: &Board<C>, partial: &Partial) -> bool
     requires channel { partial.now.done < 8 }
     requires boundary { partial.now.at < 6 }
     ensures { let limits = slice_index_or board.now.limits (6 * partial.now.done + partial.now.at) [] in
@@ -165,16 +166,16 @@ fn is_closed(board: &Board, partial: &Partial) -> bool
 }
 
 /// The words of a whole assignment, if they fit.
-fn fitting(board: &Board, path: &Path, partial: &Partial) -> Option<Assign>
-    requires board { IsBoard board.now }
-    requires held { Holds (game_of board.now.table.now) path.now partial.now }
-    requires whole { channels board.now.table.now.shape ≤ partial.now.done }
-    ensures some { IfSome result (λ a. IsAssignmentOf board.now.table.now.shape a.w) }
-    ensures fits { IfSome result (λ a. FitsAt board.now.table.now.shape board.now.table.now.raw board.now.table.now.t a.w) }
-    ensures none { IsNone result → FitsHere board.now.table.now path.now → ⊥ }
+fn fitting<C: RunCosts>(board: &Board<C>, path: &Path, partial: &Partial) -> Option<Assign>
+    requires board { IsBoard C.offset board.now }
+    requires held { Holds (game_of (C.offset board.now.table.now)) path.now partial.now }
+    requires whole { channels (C.offset board.now.table.now).shape ≤ partial.now.done }
+    ensures some { IfSome result (λ a. IsAssignmentOf (C.offset board.now.table.now).shape a.w) }
+    ensures fits { IfSome result (λ a. FitsAt (C.offset board.now.table.now).shape (C.offset board.now.table.now).raw (C.offset board.now.table.now).t a.w) }
+    ensures none { IsNone result → FitsHere (C.offset board.now.table.now) path.now → ⊥ }
 {
     let assign = assignment(&codes(path));
-    if board.table.fits(&assign) {
+    if assign_fits(board.shape, board.table, &assign) {
         Some(assign)
     } else {
         None
@@ -190,11 +191,11 @@ pub enum Turn {
 }
 
 /// Goes on where nothing that begins as this partial assignment fits.
-fn pass(board: &Board, path: &mut Path, partial: &mut Partial) -> Turn
-    requires board { IsBoard board.now }
-    requires held { Holds (game_of board.now.table.now) path.old partial.old }
-    ensures held { Holds (game_of board.now.table.now) path.new partial.new }
-    ensures step { IsPassed board.now.table.now path.old path.new result }
+fn pass<C: RunCosts>(board: &Board<C>, path: &mut Path, partial: &mut Partial) -> Turn
+    requires board { IsBoard C.offset board.now }
+    requires held { Holds (game_of (C.offset board.now.table.now)) path.old partial.old }
+    ensures held { Holds (game_of (C.offset board.now.table.now)) path.new partial.new }
+    ensures step { IsPassed (C.offset board.now.table.now) path.old path.new result }
 {
     if advance(board, path, partial) {
         Turn::Goes
@@ -204,11 +205,11 @@ fn pass(board: &Board, path: &mut Path, partial: &mut Partial) -> Turn
 }
 
 /// Looks at one partial assignment, and goes to the next.
-pub fn look(board: &Board, path: &mut Path, partial: &mut Partial) -> Turn
-    requires board { IsBoard board.now }
-    requires held { Holds (game_of board.now.table.now) path.old partial.old }
-    ensures held { Holds (game_of board.now.table.now) path.new partial.new }
-    ensures step { IsTurn board.now.table.now path.old path.new result }
+pub fn look<C: RunCosts>(board: &Board<C>, path: &mut Path, partial: &mut Partial) -> Turn
+    requires board { IsBoard C.offset board.now }
+    requires held { Holds (game_of (C.offset board.now.table.now)) path.old partial.old }
+    ensures held { Holds (game_of (C.offset board.now.table.now)) path.new partial.new }
+    ensures step { IsTurn (C.offset board.now.table.now) path.old path.new result }
 {
     if is_closed(board, partial) {
         return pass(board, path, partial);

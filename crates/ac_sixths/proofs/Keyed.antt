@@ -1,5 +1,5 @@
 -- The index of a bin in the table, and bounds of the table.
-use Rattle.std.proofs.Common.{◌≡◌, ℕ, ◌+◌, ◌*◌, ◌-◌, ◌<◌, ◌≤◌, ℤ, pos, negsuc, ◌-ℤ◌, List, slice_index, arith, ap, refl}
+use Rattle.std.proofs.Common.{◌≡◌, ℕ, ◌+◌, ◌*◌, ◌-◌, ◌/◌, ◌<◌, ◌≤◌, min, ℤ, pos, negsuc, ◌-ℤ◌, List, slice_index, arith, ap, refl}
 use Rattle.std.specs.Prelude.{nat_le, nat_eq}
 use Rattle.std.proofs.lemmas.Int.{ints}
 use Rattle.std.proofs.lemmas.Bool.{leb-true, eqb-true}
@@ -9,7 +9,7 @@ use Rattle.ac_base.proofs.AllocationTables.{baps_small}
 use Rattle.ac_alloc.specs.Keys.{lowest, key, place, pointer_above, sixths_by}
 use Rattle.ac_alloc.specs.Masking.{IsLevel}
 use Rattle.ac_alloc.specs.Pointers.{natural, bap}
-use Rattle.ac_alloc.proofs.Keyed.{address_is}
+use Rattle.ac_alloc.proofs.Keyed.{address_is, place_is}
 use Rattle.ac_sixths.specs.Keys.{weights, weight, sixths, WeightsAreSixths}
 use Rattle.ac_sixths.specs.Runs.{base_of, level_of, IsSixthTable}
 
@@ -42,3 +42,17 @@ sixths_small d = weight_small (pointer_above d) (omega (arith, baps_small (place
 
 pub table_small : (f : List ℕ) → IsSixthTable f → (i : ℕ) → i < 4128 → slice_index f i ≤ 96
 table_small f is i l = omega (arith, is i l, sixths_small (pos 3000 -ℤ pos i))
+
+-- the place at an index
+place_at : (i : ℕ) → place (pos 3000 -ℤ pos i) ≡ min ((i - 1713) / 8) 63
+place_at i = let e = place_is (pos 3000 -ℤ pos i) 3000 i refl in omega (arith, e)
+
+-- below 1713 it is 0
+pub low_sixths : (i : ℕ) → i < 1713 → sixths (pos 3000 -ℤ pos i) ≡ 0
+low_sixths i l =
+    let e : place (pos 3000 -ℤ pos i) ≡ 0 = omega (arith, place_at i) in ap (λ p. weight (slice_index baptab_list p)) e
+
+-- from 2217 on it is 63
+pub high_sixths : (i : ℕ) → 2217 ≤ i → sixths (pos 3000 -ℤ pos i) ≡ 96
+high_sixths i l =
+    let e : place (pos 3000 -ℤ pos i) ≡ 63 = omega (arith, place_at i) in ap (λ p. weight (slice_index baptab_list p)) e

@@ -40,12 +40,24 @@ pub(crate) fn entry(i: usize) -> u16
     weight(baptab(address(i)))
 }
 
+/// The entries that change with the index, among zeros.
+fn low_entries() -> [u16; 4128]
+    ensures low { (i : ℕ) → i < 2217 → slice_index result i ≡ sixths (pos 3000 -ℤ pos i) }
+{
+    let mut f = [0u16; 4128];
+    for i in 1713..2217usize {
+        f[i] = entry(i);
+    }
+    f
+}
+
+/// Those at which the place is 0 are 0, and those at which it is 63 are the greatest weight.
 fn entries() -> [u16; 4128]
     ensures { IsSixthTable result }
 {
-    let mut f = [0u16; 4128];
-    for i in 0..4128usize {
-        f[i] = entry(i);
+    let mut f = low_entries();
+    for i in 2217..4128usize {
+        f[i] = 96;
     }
     f
 }

@@ -1,15 +1,8 @@
-use Rattle.std.proofs.Common.{ℕ, List, subst, arith}
-use Rattle.ac_cost.specs.Parts.{cheapest_assign}
-use Rattle.ac_bound.proofs.Offsets.{most}
-use Rattle.ac_plan.specs.Uniform.{IsUniformBy}
-use Rattle.ac_plan.proofs.Uniforms.{fits_alike, cheapest_by}
+use Rattle.std.proofs.Common.{arith}
 use Rattle.ac_plan.proofs.floor.floor.Goals as goal
 
 pub returns-clause-fits : goal.returns-clause-fits
-returns-clause-fits c =
-    let shape = c.args.shape.now in
-    let mine : IsUniformBy shape most c.uniform.result.w = subst (λ (w : List ℕ). IsUniformBy shape w c.uniform.result.w) c.word_at.ensures c.uniform.ensures in
-    fits_alike shape c.args.lists.now.raw 0 most (cheapest_assign shape) c.uniform.result.w (cheapest_by shape) mine c.requires.cheapest
+returns-clause-fits c = c.cheapest.ensures.fits c.args.rows.now.raw c.requires.cheapest
 
 pub returns-clause-above : goal.returns-clause-above
 returns-clause-above c = λ t low high. c.loop-t.invariant.none t (omega (arith, low, c.loop-t-test.false)) high

@@ -5,12 +5,12 @@ use Rattle.ac_seek.proofs.Places.{row_zero}
 use Rattle.ac_seek.proofs.board.costs.Goals as goal
 
 pub loop-place-init : goal.loop-place-init
-loop-place-init c = record { value = λ place l. absurd (omega arith); small = row_zero; long = refl }
+loop-place-init g c = record { value = λ place l. absurd (omega arith); small = row_zero; long = refl }
 
 pub loop-place-preserved : goal.loop-place-preserved
-loop-place-preserved c =
+loop-place-preserved g c =
     let i = c.loop-place in
-    let P : ℕ → List ℕ → Type 0 = HasCost c.args.table.now in
+    let P : ℕ → List ℕ → Type 0 = HasCost (g.C.RunCosts.offset c.args.table.now) in
     let Q : ℕ → List ℕ → Type 0 = λ place row. (part : ℕ) → slice_index row part ≤ 2 ^ 19 in
     let inside : i.place < length i.costs = omega (arith, i.invariant.long, c.loop-place-test.true) in
     record {

@@ -3,8 +3,8 @@ use Rattle.ac_seek.specs.Boards.{HasCost, AreSmall}
 use Rattle.ac_seek.proofs.board.costs.Given as goal
 
 abbrev pub invariant-loop-place : goal.invariant-loop-place
-invariant-loop-place l = record {
-  value : (place : ℕ) → place < l.place → HasCost l.table place (slice_index_or l.costs place []);
+invariant-loop-place g l = record {
+  value : (place : ℕ) → place < l.place → HasCost (g.C.RunCosts.offset l.table) place (slice_index_or l.costs place []);
   small : AreSmall l.costs;
   long : length l.costs ≡ 882;
 }

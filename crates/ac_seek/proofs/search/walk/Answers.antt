@@ -7,8 +7,8 @@ use Rattle.ac_seek.proofs.Turns.{owed-pos}
 use Rattle.ac_seek.proofs.search.walk.Goals as goal
 
 pub loop-before-init : goal.loop-before-init
-loop-before-init c =
-    let v = c.args.board.now.table.now in
+loop-before-init g c =
+    let v = g.C.RunCosts.offset c.args.board.now.table.now in
     let g = game_of v in
     let path = c.new-path.result in
     record {
@@ -18,8 +18,8 @@ loop-before-init c =
     }
 
 pub loop-before-preserved : goal.loop-before-preserved
-loop-before-preserved c =
-    let v = c.args.board.now.table.now in
+loop-before-preserved g c =
+    let v = g.C.RunCosts.offset c.args.board.now.table.now in
     let here = c.loop-before.invariant in
     let some = some-pots v in
     record {
@@ -29,15 +29,15 @@ loop-before-preserved c =
     }
 
 pub returns : goal.returns
-returns c = λ pot are.
-    omega (arith, c.loop-before-test.false, c.loop-before.invariant.count pot are, owed-pos (game_of c.args.board.now.table.now) pot c.loop-before.path)
+returns g c = λ pot are.
+    omega (arith, c.loop-before-test.false, c.loop-before.invariant.count pot are, owed-pos (game_of (g.C.RunCosts.offset c.args.board.now.table.now)) pot c.loop-before.path)
 
 pub returns-in-Found : goal.returns-in-Found
-returns-in-Found c = c.in-Found.ensures.step
+returns-in-Found g c = c.in-Found.ensures.step
 
 pub returns-in-Ended : goal.returns-in-Ended
-returns-in-Ended c =
-    let v = c.args.board.now.table.now in
+returns-in-Ended g c =
+    let v = g.C.RunCosts.offset c.args.board.now.table.now in
     let here = c.loop-before.invariant in
     let some = some-pots v in (
       here.left (c.in-Ended.ensures.step some.0 some.1).1,

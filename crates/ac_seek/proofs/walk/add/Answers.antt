@@ -9,27 +9,28 @@ use Rattle.ac_seek.proofs.Paths.{Holds-small, Holds-room, Holds-add, board-cheap
 use Rattle.ac_seek.proofs.walk.add.Goals as goal
 
 pub after-done-requires : goal.after-done-requires
-after-done-requires c =
-    omega (arith, c.requires.next.inside, c.requires.next.same, coded-few c.args.board.now.table.now.shape)
+after-done-requires g c =
+    omega (arith, c.requires.next.inside, c.requires.next.same, coded-few (g.C.RunCosts.offset c.args.board.now.table.now).shape)
 
 pub place-requires-clause-channel : goal.place-requires-clause-channel
-place-requires-clause-channel c =
-    omega (arith, c.requires.next.inside, c.requires.next.same, coded-few c.args.board.now.table.now.shape)
+place-requires-clause-channel g c =
+    omega (arith, c.requires.next.inside, c.requires.next.same, coded-few (g.C.RunCosts.offset c.args.board.now.table.now).shape)
 
 pub more-spent-requires-clause-few : goal.more-spent-requires-clause-few
-more-spent-requires-clause-few c =
-    Holds-small (game_of c.args.board.now.table.now) c.args.path.now c.args.partial.now c.requires.held (coded-few c.args.board.now.table.now.shape) (board-cheap c.args.board.now c.requires.board)
+more-spent-requires-clause-few g c =
+    Holds-small (game_of (g.C.RunCosts.offset c.args.board.now.table.now)) c.args.path.now c.args.partial.now c.requires.held (coded-few (g.C.RunCosts.offset c.args.board.now.table.now).shape) (board-cheap g.C.RunCosts.offset c.args.board.now c.requires.board)
 
 pub push-requires : goal.push-requires
-push-requires c =
-    Holds-room (game_of c.args.board.now.table.now) c.args.path.now c.args.partial.now c.args.step c.requires.held (coded-few c.args.board.now.table.now.shape) c.requires.next
+push-requires g c =
+    Holds-room (game_of (g.C.RunCosts.offset c.args.board.now.table.now)) c.args.path.now c.args.partial.now c.args.step c.requires.held (coded-few (g.C.RunCosts.offset c.args.board.now.table.now).shape) c.requires.next
 
 pub returns-clause-held : goal.returns-clause-held
-returns-clause-held c =
+returns-clause-held g c =
     let board = c.args.board.now in
-    let g = game_of board.table.now in
+    let offset = g.C.RunCosts.offset in
+    let g = game_of (offset board.table.now) in
     let path = c.args.path.now in
     let new : Partial = record { done = c.after-done.result.0; at = c.after-done.result.1; spent = c.more-spent.result } in
-    let costs = board-row board (channel_of path) (boundary_of path) c.place.result c.args.step c.requires.board c.requires.next c.place.ensures.value in
+    let costs = board-row offset board (channel_of path) (boundary_of path) c.place.result c.args.step c.requires.board c.requires.next c.place.ensures.value in
     subst (λ (p : List Step). Holds g p new) (sym c.push.ensures)
     (Holds-add g path c.args.partial.now new c.args.step (slice_index_or board.costs c.place.result []) c.requires.held c.requires.next costs c.after-done.ensures.channel c.after-done.ensures.boundary c.more-spent.ensures)

@@ -3,5 +3,4 @@ use Rattle.ac_sixths.specs.Keys.{sixths}
 use Rattle.ac_sixths.proofs.table.entries.Given as goal
 
 abbrev pub invariant-loop-i : goal.invariant-loop-i
-invariant-loop-i l =
-    ((j : ℕ) → j < l.i → slice_index l.f j ≡ sixths (pos 3000 -ℤ pos j)) × (length l.f ≡ 4128)
+invariant-loop-i l = record { long : length l.f ≡ 4128; done : (j : ℕ) → j < l.i → slice_index l.f j ≡ sixths (pos 3000 -ℤ pos j) }

@@ -6,8 +6,8 @@ use Rattle.ac_seek.proofs.Places.{limits-any}
 use Rattle.ac_seek.proofs.board.Board.of.Goals as goal
 
 pub returns-clause-board : goal.returns-clause-board
-returns-clause-board c =
-    let v = c.args.table.now in
+returns-clause-board g c =
+    let v = g.C.RunCosts.offset c.args.table.now in
     let p = potential c.args.pots.now.p in
     let limits = subst (λ (shape : Shape). AreLimits shape p c.limits.result) (sym c.requires.same) c.limits.ensures in
     record {

@@ -1,3 +1,0 @@
-pub mod Ones
-pub mod Passing
-pub mod Places

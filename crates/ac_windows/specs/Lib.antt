@@ -1,0 +1,4 @@
+pub mod Held
+pub mod Packing
+pub mod Seen
+pub mod Windows
