@@ -121,6 +121,19 @@ impl Encoder {
         self.state.frame(pcm, out)
     }
 
+    /// Goes over the next frame, of these samples, without making it: the encoder stands afterwards as `frame` would leave it.
+    pub fn pass(&mut self, pcm: &[[i32; 1536]; 6])
+        requires few { self.old.frames < 2 ^ 32 }
+        requires pcm { (c : ℕ) → c < channels_in self.old.layout → Within (2 ^ 23) 1536 (slice_index_or pcm.now c []) }
+        ensures same_options { self.new.options ≡ self.old.options }
+        ensures same_layout { self.new.layout ≡ self.old.layout }
+        ensures frames { self.new.frames ≡ self.old.frames + 1 }
+        ensures last { (c : ℕ) → c < channels_in self.old.layout
+            → slice_index_or self.new.last c [] ≡ slice_range (slice_index_or pcm.now c []) 1280 1536 }
+    {
+        self.state.pass(pcm);
+    }
+
     /// What the next frame, of these samples, would be planned with: its shape, and the raw exponents of its coefficients by coded
     /// channel.
     pub fn raw_of(&self, pcm: &[[i32; 1536]; 6]) -> (Shape, RawExps)

@@ -164,6 +164,22 @@ impl State {
         FrameDone { size, plan }
     }
 
+    /// Goes over the next frame, of these samples: it counts, and its last samples are kept.
+    pub fn pass(&mut self, pcm: &[[i32; 1536]; 6])
+        requires state { IsState self.old }
+        requires few { self.old.frames < 2 ^ 32 }
+        requires pcm { (c : ℕ) → c < channels_in (layout_in self.old.sound) → Within (2 ^ 23) 1536 (slice_index_or pcm.now c []) }
+        ensures same_options { self.new.options ≡ self.old.options }
+        ensures same_sound { self.new.sound ≡ self.old.sound }
+        ensures frames { self.new.frames ≡ self.old.frames + 1 }
+        ensures last { (c : ℕ) → c < channels_in (layout_in self.old.sound)
+            → slice_index_or self.new.last c [] ≡ slice_range (slice_index_or pcm.now c []) 1280 1536 }
+        ensures state { IsState self.new }
+    {
+        keep(pcm, &mut self.last);
+        self.frames += 1;
+    }
+
     /// What the next frame, of these samples, would be planned with.
     pub fn raw_of(&self, pcm: &[[i32; 1536]; 6]) -> (Shape, RawExps)
         requires state { IsState self.now }

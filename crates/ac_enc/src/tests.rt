@@ -95,6 +95,14 @@ fn look(rt: &impl Abort, encoder: &mut Encoder, size: usize, codes: u8)
     assert!(rt; out[done.size..].iter().all(|byte| *byte == 0xff));
 }
 
+/// Goes over a frame of silence.
+fn pass(encoder: &mut Encoder)
+    requires few { encoder.old.frames < 10 }
+    ensures { encoder.new.frames ≡ encoder.old.frames + 1 }
+{
+    encoder.pass(&silence());
+}
+
 /// The next frame of silence has the greatest offset there is.
 fn look_top(rt: &impl Abort, encoder: &mut Encoder)
     requires few { encoder.old.frames < 10 }
@@ -139,6 +147,18 @@ fn alternating_frame_sizes(rt: HostRuntime) {
         return;
     };
     look(&rt, &mut encoder, 834, 64 + 20);
+    look(&rt, &mut encoder, 836, 64 + 21);
+}
+
+// A frame that is passed over counts, so that the second of two frames has the size of a second frame.
+#[test]
+fn a_passed_frame_counts(rt: HostRuntime) {
+    assert!(rt; is_rate(192));
+    let Ok(mut encoder) = Encoder::new(rt.alloc(), options(192, None, Couple::Auto), &mono(1))
+    else {
+        return;
+    };
+    pass(&mut encoder);
     look(&rt, &mut encoder, 836, 64 + 21);
 }
 
