@@ -1,0 +1,9 @@
+pub mod Answering
+pub mod Children
+pub mod Claiming
+pub mod Firsts
+pub mod Folds
+pub mod Looping
+pub mod Passing
+pub mod Standing
+pub mod Trusting

@@ -1,0 +1,3 @@
+pub mod Leaves
+pub mod Made
+pub mod Nodes
