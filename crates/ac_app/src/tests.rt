@@ -226,7 +226,7 @@ mod faults;
 mod heads;
 mod layouts;
 mod mono;
-mod reported;
+mod refused;
 mod sounds;
 mod streams;
 mod synthesis;

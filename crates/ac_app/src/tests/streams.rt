@@ -1,6 +1,6 @@
 //! Streams that are decoded, and why others are refused.
 use super::decoded::DECODED;
-use super::reported::REPORTED;
+use super::refused::REFUSED;
 use super::{Left, NONE, left_by, refuses, reports, spoken};
 use crate::Status;
 use std::alloc::{AllocError, Global};
@@ -52,9 +52,11 @@ fn streams_decoded(rt: HostRuntime) -> Result<(), Fail> {
     Ok(())
 }
 
+// All streams of a second program that break a rule of the frame.
 #[test]
 fn streams_refused(rt: HostRuntime) -> Result<(), Fail> {
-    for (stream, report) in REPORTED {
+    for record in REFUSED.split('|') {
+        let (stream, report) = record.split_once(' ').expect(&rt, "a report");
         let left = decoded(rt, stream)?;
         assert!(rt; reports(&left, report), "{report}");
     }
