@@ -60,7 +60,8 @@ pub fn couple(coefs: &mut Coefs, coupled: &Shape) -> Coordinates
         → slice_index_or coefs.new.c c [] ≡ slice_index_or coefs.old.c c [] }
     ensures mean { (b k : ℕ) → b < 6 → start_of coupled.now.couple ≤ k → k < end_by coupled.now.couple
         → entry coefs.new.c (full_of coupled.now.acmod) b k ≡ mean_of (full_of coupled.now.acmod) (entry coefs.old.c) b k }
-    ensures low { slice_index_or coefs.new.c (full_of coupled.now.acmod + 1) [] ≡ slice_index_or coefs.old.c (full_of coupled.now.acmod) [] }
+    ensures low { slice_index_or coefs.new.c (full_of coupled.now.acmod + 1) []
+        ≡ slice_index_or coefs.old.c (full_of coupled.now.acmod) [] }
 {
     let full = coupled.full();
     let range = Range::of(coupled);

@@ -107,7 +107,8 @@ impl State {
     /// Decodes a frame.
     pub fn frame(&mut self, bytes: &[u8], out: &mut Pcm) -> Result<Heard, FrameFault>
         requires state { IsState self.old }
-        ensures value { IfOk result (λ heard. (g : Reading) × Decodes bytes.now (decoding_in self.old) g heard out.new (decoding_in self.new)) }
+        ensures value { IfOk result (λ heard. (g : Reading)
+            × Decodes bytes.now (decoding_in self.old) g heard out.new (decoding_in self.new)) }
         ensures bound { IfOk result (λ heard. (c : ℕ) → c < full_of heard.acmod + count_of heard.lfe
             → Within (2 ^ 23) 1536 (slice_index_or out.new.s c [])) }
         ensures rest { IfOk result (λ heard. (c : ℕ) → full_of heard.acmod + count_of heard.lfe ≤ c

@@ -24,7 +24,8 @@ pub record AreOver (shape : Shape) (raw : List (List (List ℕ))) (nodes u r : �
   pub sizes : (t : ℕ) → u ≤ t → t ≤ r → IsTreeSize (at_offset shape raw t) (size t)
   pub over : nodes < nodes_from size u (r + 1 - u)
 
--- the search of a frame with several coded channels was cut short at an offset up to the root: nothing fits above it, and the answer is no less than the floor
+-- the search of a frame with several coded channels was cut short at an offset up to the root: nothing fits above it, and the answer is
+-- no less than the floor
 pub record IsCutShort (shape : Shape) (raw : List (List (List ℕ))) (nodes s u : ℕ) : Type 0 where
   pub several : 2 ≤ channels shape
   pub floor : ℕ

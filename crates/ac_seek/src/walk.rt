@@ -171,7 +171,7 @@ fn fitting<C: RunCosts>(board: &Board<C>, path: &Path, partial: &Partial) -> Opt
     requires held { Holds (game_of (C.offset board.now.table.now)) path.now partial.now }
     requires whole { channels (C.offset board.now.table.now).shape ≤ partial.now.done }
     ensures some { IfSome result (λ a. IsAssignmentOf (C.offset board.now.table.now).shape a.w) }
-    ensures fits { IfSome result (λ a. FitsAt (C.offset board.now.table.now).shape (C.offset board.now.table.now).raw (C.offset board.now.table.now).t a.w) }
+    ensures fits { let v = C.offset board.now.table.now in IfSome result (λ a. FitsAt v.shape v.raw v.t a.w) }
     ensures none { IsNone result → FitsHere (C.offset board.now.table.now) path.now → ⊥ }
 {
     let assign = assignment(&codes(path));

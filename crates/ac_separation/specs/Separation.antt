@@ -33,7 +33,9 @@ band_of f (suc n) = if holds (entry f.cplbndstrc (suc n)) then band_of f n else 
 -- field, as each field that is read is (A/52 5.4.3.16, 5.4.3.17, 7.4.3)
 abbrev pub factor_in : Block → ℕ → ℕ → ℕ
 factor_in f c band =
-    factor_of (min (number (entry (slice_index_or f.cplcoexp c []) band)) 15) (min (number (entry (slice_index_or f.cplcomant c []) band)) 15)
+    factor_of
+    (min (number (entry (slice_index_or f.cplcoexp c []) band)) 15)
+    (min (number (entry (slice_index_or f.cplcomant c []) band)) 15)
 
 -- mstrcplco, by the same (A/52 5.4.3.15)
 abbrev pub master_in : Block → ℕ → ℕ

@@ -131,7 +131,8 @@ fn sum_blocks(
 )
     requires block { b < 6 }
     requires end { end ≤ 256 }
-    ensures left { IsWritten start end (λ k. clamped (cell_of left.old b k +ℤ cell_of right.old b k)) (cell_of left.old b) (cell_of left.new b) }
+    ensures left { IsWritten start end (λ k. clamped (cell_of left.old b k +ℤ cell_of right.old b k))
+        (cell_of left.old b) (cell_of left.new b) }
     ensures right { IsWritten start end (λ k. clamped (cell_of left.old b k +ℤ neg_ℤ (cell_of right.old b k)))
         (cell_of right.old b) (cell_of right.new b) }
     ensures left_others { (j : ℕ) → j ≢ b → slice_index_or left.new j [] ≡ slice_index_or left.old j [] }

@@ -30,7 +30,8 @@ pub struct Offset<'a> {
 
 /// The first part, in the order front, total, last, whose sixths are over its room.
 fn first_over(shape: &Shape, sixths: &[u64; 3]) -> Option<Part>
-    ensures { MatchOption result (AreWithin shape.now (slice_index sixths.now)) (λ part. IsOverIn shape.now (slice_index sixths.now) (number_of part)) }
+    ensures { MatchOption result (AreWithin shape.now (slice_index sixths.now))
+        (λ part. IsOverIn shape.now (slice_index sixths.now) (number_of part)) }
 {
     let rooms = rooms(shape.words);
     if sixths[0] > 6 * u64::from(rooms.front) {
