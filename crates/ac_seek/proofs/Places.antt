@@ -1,18 +1,19 @@
 -- The places of runs and of boundaries.
-use Rattle.std.proofs.Common.{◌≡◌, ℕ, zero, suc, ◌+◌, ◌-◌, ◌*◌, ◌^◌, ◌/◌, ◌%◌, ◌<◌, ◌≤◌, List, [], slice_index, slice_index_or, replicate, refl, sym, ap, ap₂, ◌∙◌, inl, inr, subst, arith}
+use Rattle.std.proofs.Common.{◌≡◌, ℕ, zero, suc, ◌+◌, ◌-◌, ◌*◌, ◌^◌, ◌/◌, ◌%◌, ◌<◌, ◌≤◌, List, [], slice_index, slice_index_or, replicate, Option, None, IfSome, refl, sym, ap, ap₂, ◌∙◌, inl, inr, subst, arith}
 use Rattle.std.proofs.lemmas.Bool.{cases_lt}
 use Rattle.std.proofs.lemmas.List.{get_or-replicate, get_or_past}
 use Rattle.ac_base.specs.declared.runs.Run.{Run}
 use Rattle.ac_base.specs.declared.shapes.Shape.{Shape}
 use Rattle.ac_base.specs.Fit.{side_of, rooms_of}
 use Rattle.ac_base.specs.Words.{IsRun}
+use Rattle.ac_mant.specs.declared.counts.Counts.{Counts}
 use Rattle.ac_cost.specs.Records.{AtOffset}
 use Rattle.ac_cost.specs.Runs.{IsRunOf}
 use Rattle.ac_cost.specs.Sixths.{part_of, run_sixths, sixths_by_part}
 use Rattle.ac_bound.specs.Ways.{ArePots}
 use Rattle.ac_bound.proofs.Threes.{of_three}
 use Rattle.ac_seek.specs.declared.step.Step.{Step}
-use Rattle.ac_seek.specs.Boards.{place_of, AreLimits}
+use Rattle.ac_seek.specs.Boards.{place_of, HasCount, AreKnown, AreLimits}
 use Rattle.ac_seek.proofs.Ones.{rest-same}
 
 -- the run of a place
@@ -75,3 +76,20 @@ pub limits-any : (v : AtOffset) (p q : ℕ → ℕ → ℕ → ℕ) (limits : Li
 limits-any v p q limits are also h place l channel at part low k e =
     h place l channel at part low k e
     ∙ ap (λ x. 6 * part_of (rooms_of v.shape.words) part + 1 - (6 * part_of (side_of v.shape.acmod v.shape.lfe v.shape.couple) part + x)) (rest-same v p q are also channel at part k (omega arith))
+
+-- nothing is counted yet
+abbrev no_counts : List (Option Counts)
+no_counts = replicate 882 None
+
+pub none-known : (v : AtOffset) → AreKnown v no_counts
+none-known v = record {
+  each = λ place. elim (cases_lt place 882) [
+    | inl l ↦
+        let e : slice_index_or no_counts place None ≡ None = get_or-replicate 882 place None None l in
+        subst (λ (o : Option Counts). IfSome o (HasCount v place)) (sym e) tt
+    | inr l ↦
+        let e : slice_index_or no_counts place None ≡ None = get_or_past no_counts place None l in
+        subst (λ (o : Option Counts). IfSome o (HasCount v place)) (sym e) tt
+  ];
+  long = refl;
+}

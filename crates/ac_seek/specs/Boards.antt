@@ -1,7 +1,11 @@
 -- What a search looks up: the sixths of each run, and from how many spent sixths on a partial assignment is closed where it stands.
-use Rattle.std.specs.Prelude.{◌≡◌, ℕ, ◌+◌, ◌-◌, ◌*◌, ◌^◌, ◌<◌, ◌≤◌, List, [], ◌∷◌, slice_index, slice_index_or}
+use Rattle.std.specs.Prelude.{◌≡◌, ℕ, ◌+◌, ◌-◌, ◌*◌, ◌^◌, ◌<◌, ◌≤◌, List, [], ◌∷◌, length, slice_index, slice_index_or, Option, None, IfSome}
 use Rattle.ac_base.specs.declared.shapes.Shape.{Shape}
 use Rattle.ac_base.specs.Fit.{side_of, rooms_of}
+use Rattle.ac_mant.specs.declared.counts.Counts.{Counts}
+use Rattle.ac_mant.specs.Counts.{tally}
+use Rattle.ac_cost.specs.Pointers.{run_tally}
+use Rattle.ac_cost.specs.Prices.{AreFew}
 use Rattle.ac_cost.specs.Records.{AtOffset}
 use Rattle.ac_cost.specs.Runs.{IsRunOf}
 use Rattle.ac_cost.specs.Sixths.{part_of, run_sixths}
@@ -55,6 +59,17 @@ pub record IsBoard {C : Type 0} (offset : C → AtOffset) (board : Board C) : Ty
   pub costs : AreCosts (offset board.table.now) board.costs
   pub small : AreSmall board.costs
   pub limits : (pot : ℕ → ℕ → ℕ → ℕ) → ArePots (offset board.table.now) pot → AreLimits (offset board.table.now).shape pot board.limits
+
+-- the mantissas of the run of a place
+abbrev pub HasCount : AtOffset → ℕ → Counts → Type 0
+HasCount v place counts =
+    (s : Step) → IsRunOf v.shape s.channel s.run → place_of s ≡ place
+    → (tally counts ≡ run_tally v.shape v.raw v.t s.channel s.run) × AreFew 1 counts
+
+-- those of the places that were counted
+pub record AreKnown (v : AtOffset) (counts : List (Option Counts)) : Type 0 where
+  pub each : (place : ℕ) → IfSome (slice_index_or counts place None) (HasCount v place)
+  pub long : length counts ≡ 882
 
 -- what is decided at a place, with nothing spent; behind the last channel nothing is in hand
 pub record IsStand (shape : Shape) (place : ℕ) (partial : Partial) : Type 0 where

@@ -13,7 +13,7 @@ use ac_bound::{Partial, Pots, lower};
 use ac_cost::RunCosts;
 
 /// How many places there are for runs.
-const PLACES: usize = 882;
+pub const PLACES: usize = 882;
 
 /// How many places there are for boundaries.
 const BOUNDARIES: usize = 48;
@@ -52,7 +52,7 @@ pub fn kinds(shape: &Shape, c: u8) -> u8
 }
 
 /// Whether a coded channel can have a run.
-fn is_run(shape: &Shape, channel: u8, run: &Run) -> bool
+pub fn is_run(shape: &Shape, channel: u8, run: &Run) -> bool
     ensures { IsTrue result ↔ IsRunOf shape.now channel run.now }
 {
     channel < shape.coded()

@@ -3,6 +3,7 @@
 
 mod answer;
 mod board;
+mod known;
 mod laws;
 mod path;
 mod search;

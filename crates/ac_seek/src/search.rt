@@ -7,6 +7,7 @@ ghost use Rattle.ac_seek.specs.Walks.{IsFound};
 
 use crate::answer::Seek;
 use crate::board::Board;
+use crate::known::Known;
 use crate::path::Path;
 use crate::walk::{Turn, look};
 use ac_base::Shape;
@@ -18,6 +19,7 @@ fn walk<C: RunCosts>(board: &Board<C>, nodes: u32) -> Seek
     requires { IsBoard C.offset board.now }
     ensures { IsFound (C.offset board.now.table.now) nodes result }
 {
+    let mut known = Known::new(board.table);
     let mut path = Path::new();
     let mut partial = Partial {
         done: 0,
@@ -25,7 +27,7 @@ fn walk<C: RunCosts>(board: &Board<C>, nodes: u32) -> Seek
         spent: [0; 3],
     };
     for before in 0..nodes {
-        match look(board, &mut path, &mut partial) {
+        match look(board, &mut known, &mut path, &mut partial) {
             Turn::Found(assign) => return Seek::Fits(assign),
             Turn::Ended => return Seek::Never { used: before + 1 },
             Turn::Goes => {}

@@ -9,6 +9,7 @@ ghost use Rattle.ac_seek.specs.Walks.{Holds, later_steps, laters, IsPassed, IsTu
 ghost use Rattle.ac_seek.specs.Words.{game_of, FitsHere};
 
 use crate::board::{Board, kinds, place};
+use crate::known::Known;
 use crate::path::Path;
 use crate::step::Step;
 use crate::words::{assignment, codes};
@@ -166,16 +167,24 @@ fn is_closed<C: RunCosts>(board: &Board<C>, partial: &Partial) -> bool
 }
 
 /// The words of a whole assignment, if they fit.
-fn fitting<C: RunCosts>(board: &Board<C>, path: &Path, partial: &Partial) -> Option<Assign>
+fn fitting<C: RunCosts>(
+    board: &Board<C>,
+    known: &mut Known<C>,
+    path: &Path,
+    partial: &Partial,
+) -> Option<Assign>
     requires board { IsBoard C.offset board.now }
+    requires known { known.old ≡ C.offset board.now.table.now }
     requires held { Holds (game_of (C.offset board.now.table.now)) path.now partial.now }
     requires whole { channels (C.offset board.now.table.now).shape ≤ partial.now.done }
     ensures some { IfSome result (λ a. IsAssignmentOf (C.offset board.now.table.now).shape a.w) }
     ensures fits { let v = C.offset board.now.table.now in IfSome result (λ a. FitsAt v.shape v.raw v.t a.w) }
     ensures none { IsNone result → FitsHere (C.offset board.now.table.now) path.now → ⊥ }
+    ensures kept { known.new ≡ known.old }
 {
+    known.learn(board.shape, path.steps());
     let assign = assignment(&codes(path));
-    if assign_fits(board.shape, board.table, &assign) {
+    if assign_fits(board.shape, known, &assign) {
         Some(assign)
     } else {
         None
@@ -205,11 +214,18 @@ fn pass<C: RunCosts>(board: &Board<C>, path: &mut Path, partial: &mut Partial) -
 }
 
 /// Looks at one partial assignment, and goes to the next.
-pub fn look<C: RunCosts>(board: &Board<C>, path: &mut Path, partial: &mut Partial) -> Turn
+pub fn look<C: RunCosts>(
+    board: &Board<C>,
+    known: &mut Known<C>,
+    path: &mut Path,
+    partial: &mut Partial,
+) -> Turn
     requires board { IsBoard C.offset board.now }
+    requires known { known.old ≡ C.offset board.now.table.now }
     requires held { Holds (game_of (C.offset board.now.table.now)) path.old partial.old }
     ensures held { Holds (game_of (C.offset board.now.table.now)) path.new partial.new }
     ensures step { IsTurn (C.offset board.now.table.now) path.old path.new result }
+    ensures kept { known.new ≡ known.old }
 {
     if is_closed(board, partial) {
         return pass(board, path, partial);
@@ -219,7 +235,7 @@ pub fn look<C: RunCosts>(board: &Board<C>, path: &mut Path, partial: &mut Partia
         add(board, path, partial, step);
         return Turn::Goes;
     }
-    match fitting(board, path, partial) {
+    match fitting(board, known, path, partial) {
         Some(assign) => Turn::Found(assign),
         None => pass(board, path, partial),
     }

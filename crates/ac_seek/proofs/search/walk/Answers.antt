@@ -1,4 +1,4 @@
-use Rattle.std.proofs.Common.{List, subst, arith}
+use Rattle.std.proofs.Common.{List, ◌∙◌, subst, arith}
 use Rattle.ac_seek.specs.declared.step.Step.{Step}
 use Rattle.ac_seek.specs.Walks.{NothingLeft}
 use Rattle.ac_seek.specs.Words.{game_of, FitsHere}
@@ -12,6 +12,7 @@ loop-before-init g c =
     let g = game_of v in
     let path = c.new-path.result in
     record {
+      known = c.new-known.ensures;
       held = holds-start g path c.new-path.ensures;
       count = λ pot are. owed-start g pot path c.new-path.ensures;
       left = λ left. (subst (λ (p : List Step). NothingLeft g (FitsHere v) p) c.new-path.ensures left).0;
@@ -23,6 +24,7 @@ loop-before-preserved g c =
     let here = c.loop-before.invariant in
     let some = some-pots v in
     record {
+      known = c.look.ensures.kept ∙ here.known;
       held = c.look.ensures.held;
       count = λ pot are. omega (arith, (c.in-Goes.ensures.step pot are).0, here.count pot are);
       left = λ left. here.left ((c.in-Goes.ensures.step some.0 some.1).1 left);
@@ -44,3 +46,6 @@ returns-in-Ended g c =
       λ pot are. omega (arith, (c.in-Ended.ensures.step pot are).0, here.count pot are),
       omega (arith, c.loop-before-test.true),
     )
+
+pub look-requires-clause-known : goal.look-requires-clause-known
+look-requires-clause-known g c = c.loop-before.invariant.known

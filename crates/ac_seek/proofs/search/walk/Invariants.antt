@@ -7,6 +7,7 @@ use Rattle.ac_seek.proofs.search.walk.Given as goal
 
 abbrev pub invariant-loop-before : goal.invariant-loop-before
 invariant-loop-before g l = record {
+  known : l.known ≡ g.C.RunCosts.offset l.board.table.now;
   held : Holds (game_of (g.C.RunCosts.offset l.board.table.now)) l.path l.partial;
   count : (pot : ℕ → ℕ → ℕ → ℕ) → ArePots (g.C.RunCosts.offset l.board.table.now) pot
       → l.before + owed (game_of (g.C.RunCosts.offset l.board.table.now)) pot l.path ≡ tree_size (game_of (g.C.RunCosts.offset l.board.table.now)) pot [];
