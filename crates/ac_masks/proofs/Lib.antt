@@ -1,0 +1,4 @@
+pub mod Adding
+pub mod Banding
+pub mod Readying
+pub mod Stepping

@@ -1,0 +1,13 @@
+use Rattle.std.proofs.Common.{◌≡◌, ℕ, ◌+◌, ◌-◌, ◌<◌, ◌≤◌, length, slice_index}
+use Rattle.std.specs.Prelude.{if◌then◌else◌, nat_le}
+use Rattle.ac_alloc.specs.Excitation.{lowcomp}
+use Rattle.ac_masks.specs.Steps.{leak_step, excite_step, base_step}
+use Rattle.ac_masks.proofs.state.leak_on.Given as goal
+
+abbrev pub invariant-loop-l : goal.invariant-loop-l
+invariant-loop-l l = record {
+  long : length l.leak ≡ 64;
+  done : (i : ℕ) → i < l.l → slice_index l.leak i ≡ leak_step (slice_index l.initial.leak i) (slice_index l.begin i) l.b (slice_index l.density i) l.gain l.decay;
+  bounds : (i : ℕ) → i < l.l → slice_index l.leak i ≤ 9648;
+  rest : (i : ℕ) → l.l ≤ i → slice_index l.leak i ≡ slice_index l.initial.leak i;
+}

@@ -1,0 +1,4 @@
+pub mod Adding
+pub mod Densities
+pub mod Steps
+pub mod Bases
