@@ -6,6 +6,8 @@ mod densities;
 mod gains;
 mod masks;
 mod state;
+#[cfg(test)]
+mod tests;
 
 pub use additions::AddTable;
 pub use masks::fill_bases;

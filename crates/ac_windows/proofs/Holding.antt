@@ -14,12 +14,11 @@ use Rattle.ac_base.proofs.AllocationTables.{bands_small}
 use Rattle.ac_base.proofs.SpanBounds.{span_end}
 use Rattle.ac_base.proofs.Tests.{all_below-at}
 use Rattle.ac_expo.specs.Raw.{channels, channel_span}
-use Rattle.ac_alloc.specs.declared.mask.Mask.{Mask}
 use Rattle.ac_alloc.specs.declared.params.Params.{Params}
 use Rattle.ac_alloc.specs.Codes.{encoder_params}
-use Rattle.ac_alloc.specs.Masking.{IsLevel, IsMask, mask, first_band, last_band}
+use Rattle.ac_alloc.specs.Masking.{first_band, last_band}
 use Rattle.ac_alloc.proofs.Keyed.{lowest_is_sent}
-use Rattle.ac_alloc.proofs.Reading.{mask_same}
+use Rattle.ac_alloc.proofs.Rising.{masks_are_levels}
 use Rattle.ac_alloc.proofs.Spans.{bands_rise}
 use Rattle.ac_levels.specs.Rows.{AreRows, AreLevels, ranges_before, row_of as level_row}
 use Rattle.ac_cost.specs.Rows.{froms, tos, run_of, rows_of}
@@ -29,46 +28,22 @@ use Rattle.ac_cost.proofs.Listing.{run_taken}
 use Rattle.ac_sixths.specs.Runs.{column, level_of, base_of}
 use Rattle.ac_sixths.proofs.Meanings.{column_at}
 use Rattle.ac_sixths.proofs.Steps.{levels_shared}
+use Rattle.ac_masks.specs.Bases.{AreBandBases}
 use Rattle.ac_windows.specs.Held.{AreLevelsOf, AreBases, IsHeldRow, IsHeld}
 
 -- ---- masks
-level_back : (x level e : ℕ) → x ≡ 24 - level / 8 → e ≤ 24 → level ≡ level_of e → x ≡ e
-level_back x level e a small b = omega arith
-
--- the bases of masks by exponents that are read off levels
-pub bases_are : (p : Params) (s : Span) (levels found : List ℕ) (m : Mask) (out : List (List ℕ)) (row : ℕ) → IsSpan s → ((k : ℕ) → s.start ≤ k → k < s.end → slice_index found k ≡ 24 - slice_index levels k / 8) → ((b : ℕ) → first_band s ≤ b → b ≤ last_band s → slice_index_or m.m b (pos 0) ≡ mask p s found b) → IsMask m → ((b : ℕ) → b < 50 → slice_index (slice_index_or out b []) row ≡ base_of (slice_index_or m.m b (pos 0))) → AreBases p s levels (column out row)
-bases_are p s levels found m out row is back masks small written = record {
-  bound = λ b l. omega (arith, column_at out row b, written b l);
+-- bases by bands are those of bins
+pub bases_are : (p : Params) (s : Span) (levels bases : List ℕ) → IsSpan s → AreBandBases p s levels bases → AreBases p s levels bases
+bases_are p s levels bases is are = record {
+  bound = are.bound;
   value = λ exps of k inside.
       let last = span_end s is in
       let b = slice_index masktab_list k in
       let low : first_band s ≤ b = bands_rise s.start k inside.0 (omega (arith, inside.1)) in
       let high : b ≤ last_band s = bands_rise k (s.end - 1) (omega (arith, inside.1)) (omega (arith, inside.1)) in
       let near : b < 50 = omega (arith, bands_small k (omega (arith, inside.1))) in
-      let same = mask_same p s found exps is (λ j i. level_back (slice_index found j) (slice_index levels j) (slice_index exps j) (back j i.0 i.1) (of j i).0 (of j i).1) b in
-      let e : slice_index_or m.m b (pos 0) ≡ mask p s exps b = masks b low high ∙ same in
-      (subst IsLevel e (small.0 b), column_at out row b ∙ written b near ∙ ap base_of e);
+      (masks_are_levels p s exps b is near, are.value exps of b low high);
 }
-
--- bases that stay
-kept_bases : (p : Params) (s : Span) (levels : List ℕ) (old new : List (List ℕ)) (i : ℕ) → IsSpan s → ((b : ℕ) → b < 50 → slice_index (slice_index_or new b []) i ≡ slice_index (slice_index_or old b []) i) → AreBases p s levels (column old i) → AreBases p s levels (column new i)
-kept_bases p s levels old new i is kept are =
-    let same : (b : ℕ) → b < 50 → slice_index (column new i) b ≡ slice_index (column old i) b = λ b l. column_at new i b ∙ kept b l ∙ sym (column_at old i b) in
-    record {
-      bound = λ b l. omega (arith, same b l, are.bound b l);
-      value = λ exps of k inside.
-          let last = span_end s is in
-          let near = bands_small k (omega (arith, inside.1)) in
-          let was = are.value exps of k inside in
-          (was.0, same (slice_index masktab_list k) (omega (arith, near)) ∙ was.1);
-    }
-
-pub bases_more : (p : Params) (s : Span) (levels old new : List (List ℕ)) (row : ℕ) → IsSpan s → ((r : ℕ) → r < row → AreBases p s (slice_index_or levels r []) (column old r)) → AreBases p s (slice_index_or levels row []) (column new row) → ((i : ℕ) → i ≢ row → (b : ℕ) → b < 50 → slice_index (slice_index_or new b []) i ≡ slice_index (slice_index_or old b []) i) → (r : ℕ) → r < row + 1 → AreBases p s (slice_index_or levels r []) (column new r)
-bases_more p s levels old new row is before here kept r l =
-    elim (cases_eq r row) [
-      | inl e ↦ subst (λ (x : ℕ). AreBases p s (slice_index_or levels x []) (column new x)) (sym e) here
-      | inr n ↦ let ne : r ≢ row = n in kept_bases p s (slice_index_or levels r []) old new r is (kept r ne) (before r (omega arith))
-    ]
 
 -- ---- rows
 range_is_run : (i : ℕ) → i < 21 → (slice_index froms i < slice_index tos i) × (slice_index tos i ≤ 6)

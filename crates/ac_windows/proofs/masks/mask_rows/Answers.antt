@@ -1,6 +1,8 @@
-use Rattle.ac_windows.proofs.Holding.{bases_more}
+use Rattle.std.proofs.Common.{ℕ, [], slice_index_or, arith}
+use Rattle.ac_sixths.specs.Runs.{column}
+use Rattle.ac_windows.proofs.Holding.{bases_are}
 use Rattle.ac_windows.proofs.masks.mask_rows.Goals as goal
 
-pub loop-row-preserved : goal.loop-row-preserved
-loop-row-preserved c =
-    bases_more c.args.p.now c.args.span.now c.args.levels.now c.loop-row.out c.mask_row.new.out c.loop-row.row c.requires.span c.loop-row.invariant c.mask_row.ensures.value c.mask_row.ensures.rest
+pub returns : goal.returns
+returns c = λ (row : ℕ) l.
+    bases_are c.args.p.now c.args.span.now (slice_index_or c.args.levels.now row []) (column c.fill_bases.new.out row) c.requires.span (c.fill_bases.ensures row (omega arith))
