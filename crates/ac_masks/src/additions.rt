@@ -56,11 +56,11 @@ impl AddTable {
 
 /// The level `a` with a bin of this level added.
 #[inline]
-pub(crate) fn added(rises: &[u16; 9633], a: u32, level: u8) -> u32
+pub(crate) fn added(rises: &[u16; 9633], a: usize, level: u8) -> usize
     requires table { IsAddTable rises.now }
     requires bound { a ≤ most_sum }
     ensures value { result ≡ logadd a (16 * level) }
     ensures bound { (m : ℕ) → 4080 ≤ m → a ≤ m → result ≤ m + 64 }
 {
-    a + u32::from(rises[(5552 + 16 * u32::from(level) - a) as usize])
+    a + usize::from(rises[5552 + 16 * usize::from(level) - a])
 }

@@ -28,18 +28,18 @@ fn level_at(levels: &[[u8; 256]; 63], row: usize, k: usize) -> u8
 
 /// The density of a bin in a row.
 #[inline]
-fn density_at(levels: &[[u8; 256]; 63], row: usize, k: usize) -> u32
+fn density_at(levels: &[[u8; 256]; 63], row: usize, k: usize) -> usize
     requires row { row < 63 }
     requires bin { k < 256 }
     ensures value { result ≡ bin_density (slice_index_or levels.now row []) k }
     ensures bound { result ≤ 4080 }
 {
-    16 * u32::from(level_at(levels, row, k))
+    16 * usize::from(level_at(levels, row, k))
 }
 
 /// A sum with a bin of a row added.
 #[inline]
-fn added_at(sum: u32, rises: &[u16; 9633], levels: &[[u8; 256]; 63], row: usize, k: usize) -> u32
+fn added_at(sum: usize, rises: &[u16; 9633], levels: &[[u8; 256]; 63], row: usize, k: usize) -> usize
     requires table { IsAddTable rises.now }
     requires sum { sum ≤ most_sum }
     requires row { row < 63 }
@@ -52,13 +52,13 @@ fn added_at(sum: u32, rises: &[u16; 9633], levels: &[[u8; 256]; 63], row: usize,
 
 /// The densities of a bin in seven rows.
 #[inline]
-fn first_seven(levels: &[[u8; 256]; 63], at: usize, k: usize) -> [u32; 7]
+fn first_seven(levels: &[[u8; 256]; 63], at: usize, k: usize) -> [usize; 7]
     requires rows { at + 7 ≤ 63 }
     requires bin { k < 256 }
     ensures values { (i : ℕ) → i < 7 → slice_index result i ≡ bin_density (slice_index_or levels.now (at + i) []) k }
     ensures bounds { (i : ℕ) → i < 7 → slice_index result i ≤ 4080 }
 {
-    let mut sums = [0u32; 7];
+    let mut sums = [0usize; 7];
     for i in 0..7usize {
         sums[i] = density_at(levels, at + i, k);
     }
@@ -68,7 +68,7 @@ fn first_seven(levels: &[[u8; 256]; 63], at: usize, k: usize) -> [u32; 7]
 /// Adds a bin in seven rows.
 #[inline]
 fn add_seven(
-    sums: &mut [u32; 7],
+    sums: &mut [usize; 7],
     rises: &[u16; 9633],
     levels: &[[u8; 256]; 63],
     at: usize,
@@ -95,7 +95,7 @@ fn sum_seven(
     at: usize,
     first: usize,
     last: usize,
-) -> [u32; 7]
+) -> [usize; 7]
     requires table { IsAddTable rises.now }
     requires rows { at + 7 ≤ 63 }
     requires order { first ≤ last }
@@ -113,7 +113,7 @@ fn sum_seven(
 }
 
 #[inline]
-fn put_seven(sums: &[u32; 7], at: usize, out: &mut [u16; 64])
+fn put_seven(sums: &[usize; 7], at: usize, out: &mut [u16; 64])
     requires rows { at + 7 ≤ 63 }
     requires sums { (i : ℕ) → i < 7 → slice_index sums.now i ≤ most_sum }
     ensures here { (l : ℕ) → at ≤ l → l < at + 7 → slice_index out.new l ≡ slice_index sums.now (l - at) }
@@ -146,6 +146,19 @@ fn fold_seven(
 {
     let sums = sum_seven(rises, levels, at, first, last);
     put_seven(&sums, at, out);
+}
+
+/// The densities of a bin in all rows.
+fn bin_rows(levels: &[[u8; 256]; 63], k: usize) -> [u16; 64]
+    requires { k < 256 }
+    ensures values { (l : ℕ) → l < 63 → slice_index result l ≡ bin_density (slice_index_or levels.now l []) k }
+    ensures bounds { (l : ℕ) → slice_index result l ≤ most_sum }
+{
+    let mut out = [0u16; 64];
+    for l in 0..63usize {
+        out[l] = density_at(levels, l, k) as u16;
+    }
+    out
 }
 
 /// The densities of the bins from the first to the last in all rows.
@@ -187,7 +200,11 @@ fn band_rows(rises: &[u16; 9633], levels: &[[u8; 256]; 63], start: u8, end: u8, 
     if begin < end && start < after {
         let first = start.max(begin);
         let last = end.min(after) - 1;
-        fold_rows(rises, levels, first as usize, last as usize)
+        if first == last {
+            bin_rows(levels, first as usize)
+        } else {
+            fold_rows(rises, levels, first as usize, last as usize)
+        }
     } else {
         zeros()
     }
