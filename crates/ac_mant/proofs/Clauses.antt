@@ -1,5 +1,5 @@
 -- What a call that read so gives.
-use Rattle.std.proofs.Common.{◌≡◌, ℕ, Bool, true, false, List, [], ◌++◌, length, Result, Ok, Err, OnOk, IfErr, refl, inl, inr, ap, sym, subst, ◌∙◌}
+use Rattle.std.proofs.Common.{◌≡◌, ℕ, ◌-◌, ◌≤◌, Bool, true, false, List, [], ◌++◌, length, drop, arith, length-append, Result, Ok, Err, OnOk, IfErr, refl, inl, inr, ap, sym, subst, ◌∙◌}
 use Rattle.ac_mant.specs.declared.coded.MantFault.{MantFault}
 use Rattle.ac_mant.specs.Groups.{AreCoded, Fill, IsFill, closed, pairs, spelled, Refuses}
 use Rattle.ac_mant.specs.Laws.{OneReading}
@@ -7,6 +7,7 @@ use Rattle.ac_mant.specs.Unpacking.{nothing, read_from, CodesGive}
 use Rattle.ac_mant.proofs.Grouping.{IsHeld}
 use Rattle.ac_mant.proofs.Whole.{AreLowPointers, reads, refused_reads}
 use Rattle.ac_mant.proofs.Spelled.{pairs_read}
+use Rattle.ac_mant.proofs.Windows.{behind}
 
 codes_got : Result (List ℕ × List Bool) MantFault → List ℕ
 codes_got (Ok r) = r.0
@@ -83,3 +84,11 @@ one_reading baps codes others fill filled rest left is also long as_long are too
     let first = pairs_read baps codes fill l rest long is are (sym same) in
     let second = pairs_read baps others filled l left as_long also too refl in
     (same_codes (sym first ∙ second), same_bits (sym first ∙ second))
+
+-- what is left is behind what was read
+pub read_behind : (baps out : List ℕ) (old new : List Bool) → AreLowPointers baps → read_from nothing 0 baps old ≡ Ok (out, new) → (length new ≤ length old) × (new ≡ drop (length old - length new) old)
+read_behind baps out old new low gives =
+    let found = found_of (Ok tt) baps out old new low gives in
+    let front = spelled found.0 closed (pairs baps out) in
+    let whole : old ≡ front ++ new = found.4 in
+    (omega (arith, ap length whole ∙ length-append front new), behind front old new whole)

@@ -7,6 +7,7 @@ pub mod Middles
 pub mod Numbers
 pub mod Costs
 pub mod Reading
+pub mod Windows
 pub mod Grouping
 pub mod Whole
 pub mod Spelled

@@ -6,7 +6,9 @@ use Rattle.std.proofs.lemmas.Bool.Decides.{nat_tests}
 use Rattle.std.proofs.lemmas.List.{length-append, length-take-le, take-append-drop}
 use Rattle.std.proofs.Math.Seq.{take-append_seam, drop-append_seam}
 use Rattle.ac_bits.specs.Bits.{bits, num}
-use Rattle.ac_bits.proofs.Laws.{length-bits, num-bits, bits-num, num_below}
+use Rattle.ac_bits.proofs.Laws.{length-bits, num-bits, bits-num, bits-zero, num_below}
+use Rattle.ac_mant.specs.Quantiser.{levels}
+use Rattle.ac_mant.specs.declared.ahead.Ahead.{Ahead}
 use Rattle.ac_mant.specs.declared.coded.MantFault.{MantFault}
 use Rattle.ac_mant.specs.declared.coded.MantFault.TheVariants.{OutOfBits, BadGroup}
 use Rattle.ac_mant.specs.declared.held.Held.{Held}
@@ -83,3 +85,15 @@ cases_take w l =
             whole = sym (take-append-drop w l) ∙ ap (λ b. b ++ drop w l) (sym front);
           })
     ]
+
+-- ---- where no number stands
+
+pub none_stands : (k : ℕ) (l : List Bool) → read_number k 0 1 l ≡ Ok (0, l)
+none_stands k l = ap (λ (b : List Bool). read_number k 0 1 (b ++ l)) (sym (bits-zero 0)) ∙ read_low k 0 1 0 l (omega arith) (omega arith)
+
+zero_read : (o : Ahead) (k : ℕ) (l : List Bool) → read_number k (number_width o 0) (number_limit o 0) l ≡ Ok (0, l)
+unfolding levels
+zero_read o k l = none_stands k l
+
+pub zero_stands : (o : Ahead) (bap k : ℕ) (l : List Bool) → bap ≡ 0 → read_number k (number_width o bap) (number_limit o bap) l ≡ Ok (0, l)
+zero_stands o bap k l e = ap (λ (b : ℕ). read_number k (number_width o b) (number_limit o b) l) e ∙ zero_read o k l

@@ -10,6 +10,7 @@ mod laws;
 mod packing;
 mod quantiser;
 mod unpacking;
+mod window;
 
 pub use coded::{Coded, MantFault};
 pub use counts::{Counts, cost_laws, exact, sixths};

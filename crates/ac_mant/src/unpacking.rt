@@ -1,22 +1,23 @@
 //! The codes of a block's mantissas from their bits (A/52 7.3.5).
 ghost use Rattle.std.specs.Prelude.{◌≡◌, ◌⊎◌, ◌<◌, ◌≤◌, ◌+◌, ◌-◌, ◌*◌, ◌^◌, ◌==◌, ℕ, if◌then◌else◌, List, Bool, [], ◌∷◌, ◌++◌, length, take, drop, slice_index, All, Result, Ok, Err, OnOk, IfErr};
 ghost use Rattle.ac_bits.specs.Bits.{bits};
-ghost use Rattle.ac_mant.specs.Groups.{closed, coded, pairs, AreCoded, Fill, IsFill, number_width, number_limit, spelled, Refuses};
-ghost use Rattle.ac_mant.specs.Unpacking.{nothing, ahead_in, read_number, read_from, NumberGives, CodesGive};
+ghost use Rattle.ac_mant.specs.Groups.{closed, coded, pairs, AreCoded, Fill, IsFill, first_width, first_limit, number_width, number_limit, spelled, Refuses};
+ghost use Rattle.ac_mant.specs.Unpacking.{nothing, ahead_in, codes_in, read_number, read_from, NumberGives, CodesGive};
 ghost use Rattle.ac_mant.specs.declared.coded.MantFault.{MantFault};
 
-use crate::ahead::{limit_at, width_at};
+use crate::ahead::{own_limit, own_width};
 use crate::coded::MantFault;
-use crate::held::{Held, ahead, nothing, opened};
+use crate::held::{Codes, Held, nothing, opened};
+use crate::window::{Window, skip};
 use ac_bits::BitSource;
 
 /// A number of so many bits below a limit; `place` is that of its mantissa.
 #[inline]
-fn read_number(source: &mut BitSource, width: u8, limit: u32, place: u16) -> Result<u16, MantFault>
+fn read_number(window: &mut Window, width: u8, limit: u32, place: u16) -> Result<u16, MantFault>
     requires width { width ≤ 16 }
-    ensures { NumberGives result source.new (read_number place width limit source.old) }
+    ensures { NumberGives result window.new (read_number place width limit window.old) }
 {
-    let Ok(number) = source.take(u32::from(width)) else {
+    let Ok(number) = window.take(u32::from(width)) else {
         return Err(MantFault::OutOfBits);
     };
     if number >= limit {
@@ -25,27 +26,52 @@ fn read_number(source: &mut BitSource, width: u8, limit: u32, place: u16) -> Res
     Ok(number as u16)
 }
 
-/// The number that stands at a mantissa: none is read where it was sent ahead.
+/// The number of a group: none is read where it was sent ahead.
 #[inline]
-fn number_at(source: &mut BitSource, held: Held, bap: u8, place: u16) -> Result<u16, MantFault>
-    requires { bap ≤ 15 }
-    ensures { NumberGives result source.new
-        (read_number place (number_width (ahead_in held) bap) (number_limit (ahead_in held) bap) source.old) }
+fn group_number(
+    window: &mut Window,
+    codes: Codes,
+    width: u8,
+    limit: u32,
+    place: u16,
+) -> Result<u16, MantFault>
+    requires width { width ≤ 16 }
+    ensures { NumberGives result window.new
+        (read_number place (first_width (length (codes_in codes)) width) (first_limit (length (codes_in codes)) limit) window.old) }
 {
-    let ahead = ahead(held);
-    read_number(source, width_at(ahead, bap), limit_at(ahead, bap), place)
+    match codes {
+        Codes::None => read_number(window, width, limit, place),
+        Codes::One(_) => Ok(0),
+        Codes::Two(_, _) => Ok(0),
+    }
+}
+
+/// The number that stands at a mantissa: none is read where it was sent ahead, nor for pointer 0.
+#[inline]
+fn number_at(window: &mut Window, held: Held, bap: u8, place: u16) -> Result<u16, MantFault>
+    requires { bap ≤ 15 }
+    ensures { NumberGives result window.new
+        (read_number place (number_width (ahead_in held) bap) (number_limit (ahead_in held) bap) window.old) }
+{
+    match bap {
+        0 => Ok(0),
+        1 => group_number(window, held.one, 5, 27, place),
+        2 => group_number(window, held.two, 7, 125, place),
+        4 => group_number(window, held.four, 7, 121, place),
+        _ => read_number(window, own_width(bap), own_limit(bap), place),
+    }
 }
 
 /// The codes, one after the other.
-fn read_codes(baps: &[u8], out: &mut [u16], source: &mut BitSource) -> Result<(), MantFault>
+fn read_window(baps: &[u8], out: &mut [u16], window: &mut Window) -> Result<(), MantFault>
     requires pointers { All (λ bap. bap ≤ 15) baps.now }
     requires lengths { length out.old ≡ length baps.now }
     requires most { length baps.now ≤ 65536 }
-    ensures { CodesGive result out.new source.new (read_from nothing 0 baps.now source.old) }
+    ensures { CodesGive result out.new window.new (read_from nothing 0 baps.now window.old) }
 {
     let mut held = nothing();
     for i in 0..baps.len() {
-        let number = match number_at(source, held, baps[i], i as u16) {
+        let number = match number_at(window, held, baps[i], i as u16) {
             Ok(number) => number,
             Err(fault) => return Err(fault),
         };
@@ -54,6 +80,23 @@ fn read_codes(baps: &[u8], out: &mut [u16], source: &mut BitSource) -> Result<()
         held = next;
     }
     Ok(())
+}
+
+/// The codes, one after the other, and the source behind them.
+fn read_codes(baps: &[u8], out: &mut [u16], source: &mut BitSource) -> Result<(), MantFault>
+    requires pointers { All (λ bap. bap ≤ 15) baps.now }
+    requires lengths { length out.old ≡ length baps.now }
+    requires most { length baps.now ≤ 65536 }
+    ensures { CodesGive result out.new source.new (read_from nothing 0 baps.now source.old) }
+{
+    let mut window = Window::of(source);
+    match read_window(baps, out, &mut window) {
+        Ok(()) => {
+            skip(source, source.left() as usize - window.left());
+            Ok(())
+        }
+        Err(fault) => Err(fault),
+    }
 }
 
 /// Reads the codes of a block's mantissas, whose bit allocation pointers are given, each at most 15, into `out`, which is as long
