@@ -4,6 +4,7 @@ pub mod Fits
 pub mod Flat
 pub mod HeldFits
 pub mod HeldSpells
+pub mod Keeping
 pub mod Latest
 pub mod Offsets
 pub mod OneBlock

@@ -25,6 +25,7 @@ use Rattle.ac_record.specs.Order.{over_channels, order_of, in_order}
 use Rattle.ac_record.specs.Readings.{cell, HoldsIn}
 use Rattle.ac_record.specs.Faults.{BlockRefuses}
 use Rattle.ac_reading.specs.Begun.{IsRead}
+use Rattle.ac_reading.specs.Kept.{pointer_by}
 use Rattle.ac_reading.specs.Mantissas.{AreUnpacked, AreRefused}
 use Rattle.ac_reading.proofs.Blocks.{whole_lawful}
 use Rattle.ac_reading.proofs.Flat.{channels_same, pairs_channels, pointers_pairs, length-channels}
@@ -47,10 +48,6 @@ in_coded h e b c k head l lawful i = elim (cases_lt c (coded_in h (filled_of h e
 if_on : (t : Bool) (n : ℕ) → t ≡ true → (if t then n else 0) ≡ n
 if_on true n e = refl
 if_on false n e = absurd cc
-
--- the pointer by a row of exponents
-abbrev pub pointer_by : Head → Block → ℕ → List (List (List ℕ)) → ℕ → ℕ → ℕ
-pointer_by h f b exps c k = pointer (is_silent h f) (params_in h f c) (span_in h f c) (slice_index_or (slice_index_or exps c []) b []) k (offset_of h f c)
 
 pub pointers_are : (h : Head) (e : List Block) (x : Block) (b : ℕ) (exps : List (List (List ℕ))) → head_fields.Lawful h → AreLawful h e → (block_fields h e).Lawful x → HoldsIn h (filled_of h e x) b exps (exponent_in h e x)
     → (c k : ℕ) → c < 7 → IsIn (span_in h (filled_of h e x) c) k → pointer_by h (filled_of h e x) b exps c k ≡ pointer_in h e x c k

@@ -1,9 +1,10 @@
 //! The coded channels of a filled block, and the parameters of their bit allocation (A/52 5.4.3, 7.2.2).
-ghost use Rattle.std.specs.Prelude.{◌≡◌, ◌<◌, ◌≤◌, ◌+◌, ◌*◌, ◌&&◌, ◌==◌, ℕ, nat_lt};
+ghost use Rattle.std.specs.Prelude.{◌≡◌, true, ◌<◌, ◌≤◌, ◌+◌, ◌*◌, ◌&&◌, ◌==◌, ℕ, nat_lt};
 ghost use Rattle.ac_base.specs.Shape.{full_of, count_of};
 ghost use Rattle.ac_base.specs.Sigma.{sum_below};
 ghost use Rattle.ac_rows.specs.Filled.{holds, number, entry};
 ghost use Rattle.ac_record.specs.Channels.{coded_in};
+ghost use Rattle.ac_reading.specs.Kept.{HaveSameCurves, HaveSameLeaks};
 ghost use Rattle.ac_record.specs.Held.{fine_of, gain_of, offset_of, is_silent, params_in};
 
 use ac_alloc::Params;
@@ -109,4 +110,30 @@ pub fn params(head: &Head, block: &Block, c: usize) -> Params
         cplfleak: number(block.cplfleak).min(7),
         cplsleak: number(block.cplsleak).min(7),
     }
+}
+
+/// Whether a coded channel has the same parameters in both blocks.
+pub fn same_params(head: &Head, a: &Block, b: &Block, c: usize) -> bool
+    requires { head.now.acmod ≤ 7 }
+    ensures { result ≡ true → params_in head.now a.now c ≡ params_in head.now b.now c }
+{
+    same_curves(a, b) && same_leaks(a, b) && gain(head, a, c) == gain(head, b, c)
+}
+
+/// Whether decays, slow gain, knee and floor are the same.
+fn same_curves(a: &Block, b: &Block) -> bool
+    ensures { result ≡ true → HaveSameCurves a.now b.now }
+{
+    number(a.sdcycod) == number(b.sdcycod)
+        && number(a.fdcycod) == number(b.fdcycod)
+        && number(a.sgaincod) == number(b.sgaincod)
+        && number(a.dbpbcod) == number(b.dbpbcod)
+        && number(a.floorcod) == number(b.floorcod)
+}
+
+/// Whether the leaks of the coupling channel are the same.
+fn same_leaks(a: &Block, b: &Block) -> bool
+    ensures { result ≡ true → HaveSameLeaks a.now b.now }
+{
+    number(a.cplfleak) == number(b.cplfleak) && number(a.cplsleak) == number(b.cplsleak)
 }

@@ -1,5 +1,5 @@
 //! The exponents of a block (A/52 7.1.3).
-ghost use Rattle.std.specs.Prelude.{◌≡◌, ℕ, ◌<◌, ◌≤◌, ◌+◌, ◌-◌, ◌*◌, List, [], Option, length, slice_index, slice_index_or};
+ghost use Rattle.std.specs.Prelude.{◌≡◌, true, ℕ, ◌<◌, ◌≤◌, ◌+◌, ◌-◌, ◌*◌, List, [], Option, None, length, slice_index, slice_index_or};
 ghost use Rattle.std.specs.Option.{ForSome};
 ghost use Rattle.ac_base.specs.Spans.{IsIn, IsKind, is_coupling};
 ghost use Rattle.ac_base.specs.Shape.{IsSpan};
@@ -8,18 +8,21 @@ ghost use Rattle.ac_expo.specs.Groups.{reference, mapped_of, sum_to, spelled_exp
 ghost use Rattle.ac_alloc.specs.Integration.{AreExponents};
 ghost use Rattle.ac_rows.specs.HeadRows.{head_fields};
 ghost use Rattle.ac_rows.specs.BlockRows.{block_fields, AreLawful};
-ghost use Rattle.ac_rows.specs.Filled.{filled_of, span_in, spans_of};
+ghost use Rattle.ac_rows.specs.Filled.{holds, latest, filled_of, span_in, spans_of};
 ghost use Rattle.ac_record.specs.Channels.{coded_in};
 ghost use Rattle.ac_record.specs.Held.{with_kind, sent_exponents, held_exponents, exponent_by, exponent_in};
 ghost use Rattle.ac_record.specs.Readings.{HoldsIn};
 ghost use Rattle.ac_reading.specs.Cells.{IsRow, IsBlank, StaysBut};
+ghost use Rattle.ac_reading.specs.Kept.{HasSent, KeepsExponents, RowsIn};
+ghost use Rattle.ac_reading.specs.Mantissas.{span_at};
 ghost use Rattle.ac_reading.specs.Spells.{Spells};
 
 use crate::cells::put;
 use crate::channels::{coded, is_shared};
+use crate::kept::Kept;
 use ac_base::{Lead, Span};
 use ac_expo::Spelled;
-use ac_rows::{Block, Head, full_channels, number};
+use ac_rows::{Block, Head, full_channels, holds, number};
 
 /// The exponents that the block `sent` sends of coded channel `c` of the filled block: their kind and groups.
 fn sent(head: &Head, filled: &Block, c: usize, sent: &Block) -> Option<(u8, Spelled)>
@@ -182,14 +185,52 @@ fn row_by(list: Option<(u8, Spelled)>, span: &Span) -> [u8; 256]
     }
 }
 
-/// The exponents of coded channel `c` of a block by bin; 0 at bins that it doesn't have.
+/// Whether a block sends no exponents of coded channel `c` of the filled block.
+fn sends_none(head: &Head, filled: &Block, c: usize, block: &Block) -> bool
+    requires { head.now.acmod ≤ 7 }
+    ensures { result ≡ true → sent_exponents head.now filled.now c block.now ≡ None }
+{
+    match sent(head, filled, c, block) {
+        Some(_) => false,
+        None => true,
+    }
+}
+
+/// Whether coupling is in use in both blocks, or in none.
+fn same_use(a: &Block, b: &Block) -> bool
+    ensures { result ≡ true → holds a.now.cplinu ≡ holds b.now.cplinu }
+{
+    holds(a.cplinu) == holds(b.cplinu)
+}
+
+/// Whether the exponents of coded channel `c` are those of the block before.
+fn stays(head: &Head, block: &Block, filled: &Block, span: &Span, kept: &Kept, c: usize) -> bool
+    requires modes { head.now.acmod ≤ 7 }
+    requires channel { c < 7 }
+    ensures { result ≡ true → HasSent head.now block.now filled.now span.now kept.now c }
+{
+    if kept.has(c, span) {
+        if same_use(&kept.block, filled) {
+            sends_none(head, filled, c, block)
+        } else {
+            false
+        }
+    } else {
+        false
+    }
+}
+
+/// The exponents of coded channel `c` of a block by bin, 0 at bins that it doesn't have: those of the block before, which are
+/// given, where the block sends none.
 fn exponent_row(
     head: &Head,
     earlier: &[Block],
     block: &Block,
     filled: &Block,
     span: &Span,
+    kept: &Kept,
     c: usize,
+    before: &[u8; 256],
 ) -> [u8; 256]
     requires head { head_fields.Lawful head.now }
     requires earlier { AreLawful head.now earlier.now }
@@ -197,10 +238,17 @@ fn exponent_row(
     requires filled { filled.now ≡ filled_of head.now earlier.now block.now }
     requires span { span.now ≡ span_in head.now filled.now c }
     requires coded { c < coded_in head.now filled.now }
+    requires channel { c < 7 }
+    requires before { c < kept.now.count → IsRow (span_at kept.now.spans c)
+        (exponent_by (span_at kept.now.spans c) (latest (sent_exponents head.now kept.now.block c) earlier.now)) before.now }
     ensures value { IsRow span.now (exponent_in head.now earlier.now block.now c) result }
     ensures bound { AreExponents span.now.start span.now.end result }
 {
-    row_by(held(head, earlier, block, filled, c), span)
+    if stays(head, block, filled, span, kept, c) {
+        *before
+    } else {
+        row_by(held(head, earlier, block, filled, c), span)
+    }
 }
 
 /// Puts the exponents of a block into a blank place.
@@ -211,6 +259,7 @@ pub fn put_exponents(
     filled: &Block,
     spans: &[Span; 7],
     b: usize,
+    kept: &Kept,
     out: &mut [[[u8; 256]; 6]; 7],
 )
     requires head { head_fields.Lawful head.now }
@@ -220,13 +269,25 @@ pub fn put_exponents(
     requires spans { spans.now ≡ spans_of head.now filled.now }
     requires place { b < 6 }
     requires blank { IsBlank b out.old }
+    requires kept { KeepsExponents head.now b kept.now earlier.now out.old }
     ensures value { HoldsIn head.now filled.now b out.new (exponent_in head.now earlier.now block.now) }
+    ensures rows { RowsIn head.now filled.now b out.new (exponent_in head.now earlier.now block.now) (coded_in head.now filled.now) }
     ensures bound { (c : ℕ) → c < coded_in head.now filled.now → AreExponents (span_in head.now filled.now c).start
         (span_in head.now filled.now c).end (slice_index_or (slice_index_or out.new c []) b []) }
     ensures rest { StaysBut b out.old out.new }
 {
+    let last = b.saturating_sub(1);
     for c in 0..coded(head, filled) {
-        let row = exponent_row(head, earlier, block, filled, &spans[c], c);
+        let row = exponent_row(
+            head,
+            earlier,
+            block,
+            filled,
+            &spans[c],
+            kept,
+            c,
+            &out[c][last],
+        );
         put(out, c, b, &row);
     }
 }

@@ -5,6 +5,7 @@ mod cells;
 mod channels;
 mod exponents;
 mod framing;
+mod kept;
 mod mantissas;
 mod order;
 mod pointers;

@@ -1,5 +1,5 @@
 //! A whole frame.
-ghost use Rattle.std.specs.Prelude.{◌≡◌, ◌<◌, ◌≤◌, ◌-◌, ◌*◌, [], length, take, Ok, Err, OnOk, IfErr};
+ghost use Rattle.std.specs.Prelude.{◌≡◌, ◌<◌, ◌≤◌, ◌-◌, ◌+◌, ◌*◌, [], length, take, Ok, Err, OnOk, IfErr};
 ghost use Rattle.ac_bits.specs.Bits.{bits_of};
 ghost use Rattle.ac_base.specs.Sizes.{tail_bits};
 ghost use Rattle.ac_rows.specs.HeadRows.{head_fields};
@@ -10,9 +10,12 @@ ghost use Rattle.ac_record.specs.Readings.{IsReading};
 ghost use Rattle.ac_record.specs.Faults.{BlockRefuses, BlocksRefuse, FieldsRefuse, IsThere, FrontIs, AllIs, words_at, room_at, IsFault};
 ghost use Rattle.ac_reading.specs.Begun.{IsOpen, Keeps, IsRead, IsBegun};
 ghost use Rattle.ac_reading.specs.Framed.{AreFields, Reading};
+ghost use Rattle.ac_reading.specs.Kept.{KeepsExponents, KeepsPointers};
 
+use crate::channels::coded;
 use crate::exponents::put_exponents;
 use crate::framing::framed;
+use crate::kept::Kept;
 use crate::mantissas::read_codes;
 use crate::pointers::put_pointers;
 use ac_base::TAIL_BITS;
@@ -26,6 +29,7 @@ use ac_syntax::{filled, read_block, read_head, spans};
 fn read_one(
     head: &Head,
     b: usize,
+    kept: &mut Kept,
     source: &mut BitSource,
     out: &mut FrameCodes,
 ) -> Result<(), Refused>
@@ -33,6 +37,10 @@ fn read_one(
     requires place { b < 6 }
     requires earlier { AreLawful head.now (take b out.old.block) }
     requires blank { IsOpen b out.old }
+    requires exponents { KeepsExponents head.now b kept.old (take b out.old.block) out.old.exps }
+    requires pointers { KeepsPointers head.now b kept.old out.old.exps out.old.baps }
+    ensures exponents { OnOk result (KeepsExponents head.now (b + 1) kept.new (take (b + 1) out.new.block) out.new.exps) }
+    ensures pointers { OnOk result (KeepsPointers head.now (b + 1) kept.new out.new.exps out.new.baps) }
     ensures found { OnOk result (IsRead head.now b out.old out.new source.old source.new) }
     ensures cause { IfErr result (λ e. BlockRefuses head.now (take b out.old.block) source.old e) }
     ensures rest { Keeps b out.old out.new }
@@ -47,12 +55,18 @@ fn read_one(
         &whole,
         &spans,
         b,
+        kept,
         &mut out.exps,
     );
-    put_pointers(head, &whole, &spans, b, &out.exps, &mut out.baps);
+    put_pointers(head, &whole, &spans, b, kept, &out.exps, &mut out.baps);
     match read_codes(head, &whole, &spans, b, &out.baps, source, &mut out.codes) {
         Ok(()) => {
             out.block[b] = block;
+            *kept = Kept {
+                count: coded(head, &whole),
+                block: whole,
+                spans,
+            };
             Ok(())
         }
         Err(e) => Err(e),
@@ -66,8 +80,9 @@ fn read_blocks(head: &Head, source: &mut BitSource, out: &mut FrameCodes) -> Res
     ensures found { OnOk result (IsBegun head.now 6 out.new source.old source.new) }
     ensures cause { IfErr result (λ e. BlocksRefuse head.now [] 6 source.old e) }
 {
+    let mut kept = Kept::nothing(&out.block[0]);
     for b in 0..6 {
-        match read_one(head, b, source, out) {
+        match read_one(head, b, &mut kept, source, out) {
             Ok(()) => {}
             Err(e) => return Err(e),
         }

@@ -6,6 +6,7 @@ use Rattle.ac_rows.proofs.HeadSound.{head_channels}
 use Rattle.ac_record.specs.Held.{exponent_in}
 use Rattle.ac_reading.specs.Cells.{IsRow}
 use Rattle.ac_reading.specs.Mantissas.{span_at}
+use Rattle.ac_reading.proofs.Keeping.{row_before}
 use Rattle.ac_reading.proofs.Steps.{put_stays}
 use Rattle.ac_reading.proofs.Rooms.{at_span, value_more, bound_more, blank_more, holds_from}
 use Rattle.ac_reading.proofs.exponents.put_exponents.Goals as goal
@@ -15,6 +16,10 @@ coded-c-end-requires c = head_channels c.args.head.now c.requires.head
 
 pub exponent_row-row-requires-clause-span : goal.exponent_row-row-requires-clause-span
 exponent_row-row-requires-clause-span c = at_span c.args.head.now c.args.filled.now c.args.spans.now c.loop-c.c c.requires.spans (omega (arith, c.loop-c-test.true, c.coded-c-end.ensures.bound))
+
+pub exponent_row-row-requires-clause-before : goal.exponent_row-row-requires-clause-before
+exponent_row-row-requires-clause-before c =
+    λ lt. row_before c.args.head.now c.args.b c.saturating_sub-last.result c.args.kept.now c.args.earlier.now c.args.out.now c.loop-c.out c.loop-c.c c.saturating_sub-last.ensures c.requires.kept c.loop-c.invariant.rest lt
 
 pub loop-c-preserved : goal.loop-c-preserved
 loop-c-preserved c =
@@ -35,3 +40,6 @@ loop-c-preserved c =
 pub returns-clause-value : goal.returns-clause-value
 returns-clause-value c =
     holds_from c.args.head.now c.args.filled.now c.args.b c.loop-c.out (exponent_in c.args.head.now c.args.earlier.now c.args.block.now) c.loop-c.c (omega (arith, c.loop-c-test.false, c.coded-c-end.ensures.value)) c.loop-c.invariant.value c.loop-c.invariant.blank
+
+pub returns-clause-rows : goal.returns-clause-rows
+returns-clause-rows c = λ d k lt. c.loop-c.invariant.value d k (omega (arith, lt, c.loop-c-test.false, c.coded-c-end.ensures.value))

@@ -10,6 +10,7 @@ use Rattle.ac_record.specs.Channels.{coded_in}
 use Rattle.ac_record.specs.Held.{offset_of}
 use Rattle.ac_reading.proofs.Blocks.{whole_lawful}
 use Rattle.ac_reading.proofs.HeldSpells.{coded_is_span}
+use Rattle.ac_reading.proofs.Keeping.{pointers_stay, exponents_kept, pointers_kept}
 use Rattle.ac_reading.proofs.Offsets.{offset_small}
 use Rattle.ac_reading.proofs.OneBlock.{one_read, one_refused}
 use Rattle.ac_reading.proofs.reading.read_one.Goals as goal
@@ -68,3 +69,26 @@ returns-in-Ok-clause-found c =
     one_read c.args.head.now c.args.b c.args.out.now _ c.in_ok-block.block c.filled-whole.result v.0 c.args.source.now c.read_block.new.source c.read_codes.new.source
     (record { head = c.requires.head; earlier = c.requires.earlier; filled = c.filled-whole.ensures; exponents = c.put_exponents.ensures.value; allocation = c.put_pointers.ensures.value }) v.1 v.2 c.in-Ok.ensures.found
     (take_more_set c.args.out.now.block c.args.b c.in_ok-block.block (omega arith)) (length-set c.args.out.now.block c.args.b c.in_ok-block.block)
+
+pub put_pointers-requires-clause-kept : goal.put_pointers-requires-clause-kept
+put_pointers-requires-clause-kept c =
+    pointers_stay c.args.head.now c.args.b c.args.kept.now c.args.out.now.exps c.put_exponents.new.out c.args.out.now.baps c.requires.exponents.first c.requires.exponents.are_spans c.put_exponents.ensures.rest c.requires.pointers
+
+pub coded-requires : goal.coded-requires
+coded-requires c = head_channels c.args.head.now c.requires.head
+
+pub returns-in-Ok-clause-exponents : goal.returns-in-Ok-clause-exponents
+returns-in-Ok-clause-exponents c =
+    let h = c.args.head.now in
+    let e = take c.args.b c.args.out.now.block in
+    let x = c.in_ok-block.block in
+    let f = c.filled-whole.result in
+    let v = c.in_ok-block.ensures.value in
+    let are : (i : ℕ) → i < coded_in h f → IsSpan (span_in h f i) =
+    subst (λ (w : Block). (i : ℕ) → i < coded_in h w → IsSpan (span_in h w i)) (sym c.filled-whole.ensures)
+    (λ i lt. coded_is_span h e x i c.requires.head c.requires.earlier (whole_lawful h e x v.0 v.1) lt) in
+    exponents_kept h e _ x f c.args.b c.coded.result c.spans-spans.result c.put_exponents.new.out c.filled-whole.ensures (take_more_set c.args.out.now.block c.args.b x (omega arith)) c.spans-spans.ensures c.coded.ensures.value c.coded.ensures.bound are c.put_exponents.ensures.rows
+
+pub returns-in-Ok-clause-pointers : goal.returns-in-Ok-clause-pointers
+returns-in-Ok-clause-pointers c =
+    pointers_kept c.args.head.now c.filled-whole.result c.args.b c.coded.result c.spans-spans.result c.put_exponents.new.out c.put_pointers.new.out c.coded.ensures.value c.put_pointers.ensures.rows
