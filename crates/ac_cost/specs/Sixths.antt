@@ -42,7 +42,8 @@ costs_in part exponents run mantissas = 6 * sent_in part run exponents + in_part
 
 -- in each part
 abbrev pub costs_by_part : ℕ → Run → ℕ → List ℕ
-costs_by_part exponents run mantissas = costs_in 0 exponents run mantissas ∷ costs_in 1 exponents run mantissas ∷ costs_in 2 exponents run mantissas ∷ []
+costs_by_part exponents run mantissas =
+    costs_in 0 exponents run mantissas ∷ costs_in 1 exponents run mantissas ∷ costs_in 2 exponents run mantissas ∷ []
 
 -- the sixths of a run of a coded channel in a part
 abbrev pub run_sixths : Shape → List (List (List ℕ)) → ℕ → ℕ → ℕ → Run → ℕ
