@@ -39,7 +39,13 @@ fn density_at(levels: &[[u8; 256]; 63], row: usize, k: usize) -> usize
 
 /// A sum with a bin of a row added.
 #[inline]
-fn added_at(sum: usize, rises: &[u16; 9633], levels: &[[u8; 256]; 63], row: usize, k: usize) -> usize
+fn added_at(
+    sum: usize,
+    rises: &[u16; 9633],
+    levels: &[[u8; 256]; 63],
+    row: usize,
+    k: usize,
+) -> usize
     requires table { IsAddTable rises.now }
     requires sum { sum ≤ most_sum }
     requires row { row < 63 }

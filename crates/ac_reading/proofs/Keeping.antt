@@ -102,7 +102,7 @@ pub pointers_stay : (h : Head) (b : ℕ) (kept : Kept) (exps others baps : List 
 pointers_stay h b kept exps others baps first are stays keeps c k lt =
     keeps c k lt ∙ if_same (is_in (span_in h kept.block c) k) _ _ (λ t.
     pointers_by_span (is_silent h kept.block) (params_in h kept.block c) (span_in h kept.block c) (row_in exps c (b - 1)) (row_in others c (b - 1)) k (offset_of h kept.block c) (are c lt)
-        (λ j inside. sym (stays c (b - 1) j (not_first b kept.count c first lt))) (in_from (span_in h kept.block c) k t))
+    (λ j inside. sym (stays c (b - 1) j (not_first b kept.count c first lt))) (in_from (span_in h kept.block c) k t))
 
 -- ---- from block to block
 
