@@ -1,6 +1,8 @@
 //! A window of offsets with its potentials, held while offsets are searched downwards.
 ghost use Rattle.std.specs.Prelude.{◌≡◌, ◌<◌, ◌≤◌, ◌+◌};
+ghost use Rattle.ac_cost.specs.Parts.{FitsAt, cheapest_assign};
 ghost use Rattle.ac_cost.specs.Records.{at_offset};
+ghost use Rattle.ac_bound.specs.Roots.{IsRoot};
 ghost use Rattle.ac_seek.specs.Answers.{Answers};
 ghost use Rattle.ac_plan.specs.Helds.{IsHeld};
 
@@ -8,7 +10,7 @@ use crate::slice::Slice;
 use crate::window::Held;
 use ac_base::Shape;
 use ac_seek::{Seek, seek};
-use ac_ways::{pots_at, ways};
+use ac_ways::{pots_at, root, ways};
 use ac_windows::RunRows;
 
 /// Takes the window of which an offset is the last, or the lowest.
@@ -21,6 +23,21 @@ pub fn load(shape: &Shape, rows: &RunRows, t: u16, held: &mut Held)
     held.first = t.saturating_sub(15);
     rows.window(held.first, &mut held.window);
     ways(shape, &held.window, &mut held.ways);
+}
+
+/// The root offset, with a window that isn't below it.
+pub fn begin(shape: &Shape, rows: &RunRows, held: &mut Held) -> u16
+    requires same { rows.now.shape ≡ shape.now }
+    requires cheapest { FitsAt shape.now rows.now.raw 0 (cheapest_assign shape.now) }
+    ensures root { IsRoot shape.now rows.now.raw result }
+    ensures held { IsHeld shape.now rows.now.raw result held.new }
+{
+    let root = root(shape, rows, &mut held.window, &mut held.ways);
+    held.first = root.first;
+    if root.first + 15 < root.offset {
+        load(shape, rows, root.offset, held);
+    }
+    root.offset
 }
 
 /// Takes the next window where an offset is below the one that is held.

@@ -10,12 +10,11 @@ ghost use Rattle.ac_plan.specs.Plans.{IsLawful};
 
 use crate::answer::{Mark, Plan};
 use crate::floor::{cheapest, uniform_plan};
-use crate::held::{load, seek_at};
+use crate::held::{begin, seek_at};
 use crate::window::{Held, NOTHING};
 use ac_base::Shape;
 use ac_expo::{Assign, RawExps};
 use ac_seek::Seek;
-use ac_ways::root;
 use ac_windows::RunRows;
 
 /// A tree of one coded channel has no more nodes.
@@ -108,8 +107,7 @@ pub fn plan(shape: &Shape, raw: &RawExps, nodes: u32) -> Plan
     let rows = RunRows::of(shape, raw);
     let nothing = &NOTHING;
     let mut held = *nothing;
-    let root = root(shape, &rows, &mut held.window);
-    load(shape, &rows, root, &mut held);
+    let root = begin(shape, &rows, &mut held);
     if shape.coded() == 1 {
         descend_one(shape, &rows, &mut held, root, nodes)
     } else {

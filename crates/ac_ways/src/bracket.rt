@@ -5,6 +5,7 @@ ghost use Rattle.ac_cost.specs.Parts.{FitsAt, IsFeasible, cheapest_assign};
 ghost use Rattle.ac_cost.specs.Sixths.{part_of};
 ghost use Rattle.ac_bound.specs.Bounds.{lower_of, nothing, IsOver};
 ghost use Rattle.ac_bound.specs.Roots.{IsRoot};
+ghost use Rattle.ac_windows.specs.Windows.{IsWindow};
 ghost use Rattle.ac_ways.specs.Sixteen.{ways_at, total_at, AreWays, AreTotals, IsBracket, IsOutside};
 
 use crate::filled::ways;
@@ -20,10 +21,6 @@ pub struct Bracket {
     pub low: u16,
     pub high: u16,
 }
-
-static ZEROS: Ways = Ways {
-    p: [[[[0; 16]; 7]; 3]; 7],
-};
 
 /// The sum of each two.
 #[inline]
@@ -135,27 +132,57 @@ fn start(bracket: &Bracket, guess: u16) -> u16
         .min(1008)
 }
 
+/// The root offset, and the first offset of a window.
+#[derive(Clone, Copy, Debug)]
+pub struct Reached {
+    pub offset: u16,
+    pub first: u16,
+}
+
+/// Makes the window from t0 on with its potentials, and gives its lower bounds where nothing is decided.
+fn look(
+    shape: &Shape,
+    rows: &RunRows,
+    t0: u16,
+    window: &mut Window,
+    at_each: &mut Ways,
+) -> [[u64; 16]; 3]
+    requires same { rows.now.shape ≡ shape.now }
+    requires start { t0 ≤ 1008 }
+    ensures window { IsWindow shape.now rows.now.raw t0 window.new.six }
+    ensures ways { AreWays shape.now rows.now.raw t0 at_each.new.p }
+    ensures totals { AreTotals shape.now at_each.new.p result }
+{
+    rows.window(t0, window);
+    ways(shape, window, at_each);
+    totals(shape, at_each)
+}
+
 /// R, the greatest offset from 0 to 1023 that the lower bound doesn't rule out, by the runs of a shape of which the cheapest
-/// assignment fits at offset 0. No offset above it is feasible. The window is left at some offsets.
-pub fn root(shape: &Shape, rows: &RunRows, window: &mut Window) -> u16
+/// assignment fits at offset 0. No offset above it is feasible. The last window that was made is left, with its potentials.
+pub fn root(shape: &Shape, rows: &RunRows, window: &mut Window, at_each: &mut Ways) -> Reached
     requires same { rows.now.shape ≡ shape.now }
     requires cheapest { FitsAt shape.now rows.now.raw 0 (cheapest_assign shape.now) }
-    ensures value { IsRoot shape.now rows.now.raw result }
-    ensures feasible { (t : ℕ) → t ≤ 1023 → IsFeasible shape.now rows.now.raw t → t ≤ result }
+    ensures value { IsRoot shape.now rows.now.raw result.offset }
+    ensures feasible { (t : ℕ) → t ≤ 1023 → IsFeasible shape.now rows.now.raw t → t ≤ result.offset }
+    ensures first { result.first ≤ 1008 }
+    ensures window { IsWindow shape.now rows.now.raw result.first window.new.six }
+    ensures ways { AreWays shape.now rows.now.raw result.first at_each.new.p }
 {
-    let zeros = &ZEROS;
-    let mut at_each = *zeros;
-    let mut bracket = Bracket { low: 0, high: 1024 };
-    let mut guess = first_guess(shape, rows);
-    let mut turns = 0u32;
+    let whole = Bracket { low: 0, high: 1024 };
+    let mut first = start(&whole, first_guess(shape, rows));
+    let mut totals = look(shape, rows, first, window, at_each);
+    let mut bracket = narrow(shape, &totals, first, &whole);
+    let mut turns = 1u32;
     while bracket.high - bracket.low > 1 {
-        let t0 = start(&bracket, guess);
-        rows.window(t0, window);
-        ways(shape, window, &mut at_each);
-        let totals = totals(shape, &at_each);
-        bracket = narrow(shape, &totals, t0, &bracket);
+        let guess = next_guess(shape, &totals, first, &bracket, turns);
+        first = start(&bracket, guess);
+        totals = look(shape, rows, first, window, at_each);
+        bracket = narrow(shape, &totals, first, &bracket);
         turns = turns.saturating_add(1);
-        guess = next_guess(shape, &totals, t0, &bracket, turns);
     }
-    bracket.low
+    Reached {
+        offset: bracket.low,
+        first,
+    }
 }

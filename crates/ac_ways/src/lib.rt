@@ -11,6 +11,6 @@ mod steps;
 #[cfg(test)]
 mod tests;
 
-pub use bracket::root;
+pub use bracket::{Reached, root};
 pub use filled::ways;
 pub use held::{Ways, pots_at};

@@ -36,7 +36,9 @@ fn root_of(rt: &impl Abort, shape: &Shape, raw: &RawExps) -> u16 {
     assert!(rt; cheapest_fits(shape));
     let window = &WINDOW;
     let mut window = *window;
-    root(shape, &RunRows::of(shape, raw), &mut window)
+    let none = &WAYS;
+    let mut at_each = *none;
+    root(shape, &RunRows::of(shape, raw), &mut window, &mut at_each).offset
 }
 
 /// The potentials at sixteen offsets.
