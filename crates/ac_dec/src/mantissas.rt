@@ -1,5 +1,5 @@
 //! The values of a frame's mantissas (A/52 7.3.3, 7.3.4).
-ghost use Rattle.std.specs.Prelude.{◌≡◌, ℕ, ◌<◌, ◌≤◌, ◌^◌, [], slice_index, slice_index_or, unsigned_abs};
+ghost use Rattle.std.specs.Prelude.{◌≡◌, true, ℕ, ◌<◌, ◌≤◌, ◌^◌, [], slice_index, slice_index_or, unsigned_abs};
 ghost use Rattle.ac_base.specs.Sigma.{Within, Lists};
 ghost use Rattle.ac_energy.specs.Coefficients.{entry};
 ghost use Rattle.ac_mant.specs.Quantiser.{IsCode, value_of};
@@ -10,6 +10,7 @@ ghost use Rattle.ac_dec.specs.Values.{IsReadable, IsReadableRow, AreReadableRows
 use ac_base::Coefs;
 use ac_mant::value;
 use ac_record::FrameCodes;
+use ac_rows::both;
 
 /// The value of a code; 0, without a division, for pointer 0.
 #[inline]
@@ -26,14 +27,39 @@ fn value_at(code: u16, bap: u8, exponent: u8) -> i32
     }
 }
 
-/// The values of a row of codes.
-fn value_row(codes: &[u16; 256], baps: &[u8; 256], exps: &[u8; 256], row: &mut [i32; 256])
+/// Whether no bin of a row has bits.
+fn is_silent(baps: &[u8; 256]) -> bool
+    ensures { result ≡ true → (k : ℕ) → k < 256 → slice_index baps.now k ≡ 0 }
+{
+    let mut none = true;
+    for k in 0..256usize {
+        none = both(none, baps[k] == 0);
+    }
+    none
+}
+
+/// The values of a row of codes, code by code.
+fn coded_row(codes: &[u16; 256], baps: &[u8; 256], exps: &[u8; 256], row: &mut [i32; 256])
     requires { IsReadableRow codes.now baps.now exps.now }
     ensures value { Lists 256 (λ k. value_of (slice_index codes.now k) (slice_index baps.now k) (slice_index exps.now k)) row.new }
     ensures bound { Within (2 ^ 24) 256 row.new }
 {
     for k in 0..256usize {
         row[k] = value_at(codes[k], baps[k], exps[k]);
+    }
+}
+
+/// The values of a row of codes.
+#[tactic(auto, using(crate::proofs::Worth::silent_values))]
+fn value_row(codes: &[u16; 256], baps: &[u8; 256], exps: &[u8; 256], row: &mut [i32; 256])
+    requires { IsReadableRow codes.now baps.now exps.now }
+    ensures value { Lists 256 (λ k. value_of (slice_index codes.now k) (slice_index baps.now k) (slice_index exps.now k)) row.new }
+    ensures bound { Within (2 ^ 24) 256 row.new }
+{
+    if is_silent(baps) {
+        *row = [0; 256];
+    } else {
+        coded_row(codes, baps, exps, row);
     }
 }
 

@@ -1,7 +1,7 @@
 use Rattle.std.proofs.Common.{◌≡◌, ◌^◌, length, slice_index}
 use Rattle.ac_base.specs.Sigma.{Within, Lists}
 use Rattle.ac_mant.specs.Quantiser.{value_of}
-use Rattle.ac_dec.proofs.mantissas.value_row.Given as goal
+use Rattle.ac_dec.proofs.mantissas.coded_row.Given as goal
 
 abbrev pub invariant-loop-k : goal.invariant-loop-k
 invariant-loop-k l =
