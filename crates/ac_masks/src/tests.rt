@@ -17,14 +17,15 @@ struct Draws {
 impl Draws {
     /// The next one, by the one before.
     fn next(&mut self, exponent: u8) -> u8
-        requires { exponent ≤ 24 }
         ensures { result ≤ 24 }
     {
         self.x = self
             .x
             .wrapping_mul(6364136223846793005)
             .wrapping_add(1442695040888963407);
-        (exponent + (self.x >> 61) as u8).saturating_sub(3).min(24)
+        (exponent.min(24) + (self.x >> 61) as u8)
+            .saturating_sub(3)
+            .min(24)
     }
 }
 
