@@ -1,0 +1,4 @@
+pub mod Codec
+pub mod Text
+pub mod TreeText
+pub mod Views
