@@ -1,14 +1,12 @@
 -- The text of a number is read, and what is read is the text of a number.
-use Rattle.std.proofs.Common.{◌≡◌, ◌≢◌, ℕ, zero, suc, ◌+◌, ◌-◌, ◌*◌, ◌/◌, ◌%◌, ◌^◌, ◌<◌, ◌≤◌, ◌==◌, ◌&&◌, not, Bool, true, false, cond, List, [], ◌∷◌, ◌++◌, length, Option, Some, None, Result, Ok, Err, refl, ap, sym, subst, ◌∙◌, arith, append_assoc, eq-eqb}
+use Rattle.std.proofs.Common.{◌≡◌, ℕ, zero, suc, ◌+◌, ◌-◌, ◌*◌, ◌/◌, ◌%◌, ◌^◌, ◌<◌, ◌≤◌, ◌==◌, ◌&&◌, not, Bool, true, false, cond, List, [], ◌∷◌, ◌++◌, Option, Some, None, Ok, refl, ap, sym, subst, ◌∙◌, arith, append_assoc, eq-eqb}
 use Rattle.std.specs.Prelude.{nat_le, nat_lt}
 use Rattle.std.specs.Fmt.{decimal}
-use Rattle.std.proofs.lemmas.Bool.{lt-ltb, le-leb, eqb-true, eqb-false, leb-true, ltb-true}
+use Rattle.std.proofs.lemmas.Bool.{lt-ltb, le-leb, eqb-true, leb-true, ltb-true}
 use Rattle.std.proofs.lemmas.Bool.Decides.{nat_tests}
 use Rattle.std.proofs.lemmas.Fmt.{decimal_by_steps, decimal_digit, decimal_step}
-use Rattle.ac_cert_text.specs.declared.fault.Fault.{Fault}
-use Rattle.ac_cert_text.specs.declared.fault.Fault.TheVariants.{Bad}
-use Rattle.ac_cert_text.specs.Codec.{Codec, Outcome, ◌>>=◌, fits, digits, number_of, found_or, number, one_if, flag}
-use Rattle.ac_cert_text.proofs.Sound.{Sound, bind_ok, ok_of, ok_pair}
+use Rattle.ac_cert_text.specs.Codec.{fits, digits, number_of, found_or, number, one_if, flag}
+use Rattle.ac_cert_text.proofs.Sound.{Sound, bind_ok, ok_pair}
 
 abbrev some_of : ℕ × List ℕ → Option (ℕ × List ℕ)
 some_of x = Some x
@@ -70,8 +68,7 @@ digits-found limit end small (b ∷ l) n m rest lt e = go (b == end) (fits limit
         let s = some_same (n, l) (m, rest) e in
         let same : n ≡ m = ap (λ (x : ℕ × List ℕ). x.0) s in
         let tail : l ≡ rest = ap (λ (x : ℕ × List ℕ). x.1) s in
-        let byte : b ≡ end = eqb-true b end h in
-        (
+        let byte : b ≡ end = eqb-true b end h in (
           subst (λ (q : ℕ). q < limit) same lt,
           ap (λ (q : ℕ). decimal q ++ b ∷ l) same
               ∙ (ap (λ (c : ℕ). decimal m ++ c ∷ l) byte ∙ ap (λ (r : List ℕ). decimal m ++ end ∷ r) tail),

@@ -1,12 +1,14 @@
 -- Offsets, one after the other.
-use Rattle.std.proofs.Common.{◌≡◌, ℕ, zero, suc, ◌+◌, ◌-◌, ◌<◌, ◌≤◌, ◌&&◌, Bool, true, false, List, [], ◌∷◌, ◌++◌, length, Result, Ok, Err, refl, ap, sym, subst, ◌∙◌, arith}
+use Rattle.std.proofs.Common.{◌≡◌, ℕ, zero, suc, ◌+◌, ◌-◌, ◌<◌, ◌&&◌, Bool, true, false, List, [], ◌∷◌, ◌++◌, Ok, Err, refl, ap, sym, ◌∙◌, arith}
 use Rattle.std.specs.Prelude.{nat_lt, codes}
+use Rattle.std.proofs.lemmas.Bool.{ltb-true}
 use Rattle.std.proofs.lemmas.Bool.Decides.{nat_tests}
+use Rattle.ac_claim.specs.declared.certs.Level.{Level}
 use Rattle.std.proofs.lemmas.List.{append-nil}
 use Rattle.ac_cert_text.specs.declared.fault.Fault.{Fault}
 use Rattle.ac_cert_text.specs.declared.fault.Fault.TheVariants.{Bad, Deep, NoMemory}
-use Rattle.ac_cert_text.specs.Codec.{Codec, Outcome, Fails, Gives, ◌>>=◌, begins, word_read, fork, cons, before, absent}
-use Rattle.ac_cert_text.specs.Text.{Fields, Offset, level, levels, some_levels}
+use Rattle.ac_cert_text.specs.Codec.{Outcome, Fails, ◌>>=◌, begins, word_read, fork, cons, before, absent}
+use Rattle.ac_cert_text.specs.Text.{Fields, Offset, level, levels, offset_of, offsets_of}
 use Rattle.ac_cert_text.proofs.Loops.{front_then, regroup}
 use Rattle.ac_cert_text.proofs.Numbers.{both}
 
@@ -70,3 +72,11 @@ pub end-fails : (f : Fields) (front : List Offset) (n : ℕ) (l r : List ℕ) (e
 end-fails f front n l r Bad total t h so_far = end-err f front n l (Bad, r) total t h so_far
 end-fails f front n l r Deep total t h so_far = end-err f front n l (Deep, r) total t h so_far
 end-fails f front n l r NoMemory total t h so_far = tt
+
+-- ---- what the loop over offsets cites
+pub one-less : (n : ℕ) (b : Bool) → (nat_lt 0 n && b) ≡ true → n - 1 + 1 ≡ n
+one-less n b h = let some : 0 < n = ltb-true 0 n (both (nat_lt 0 n) b h).0 in omega (arith, some)
+
+pub offsets-more : (levels : List Level) (level : Level) → offsets_of (levels ++ level ∷ []) ≡ offsets_of levels ++ offset_of level ∷ []
+offsets-more [] level = refl
+offsets-more (x ∷ levels) level = ap (λ (o : List Offset). offset_of x ∷ o) (offsets-more levels level)

@@ -1,9 +1,8 @@
 -- What the readers of words and numbers cite.
-use Rattle.std.proofs.Common.{◌≡◌, ℕ, ◌+◌, ◌-◌, ◌*◌, ◌==◌, ◌&&◌, not, Bool, true, false, List, [], ◌∷◌, length, take, drop, Option, Some, None, Result, Ok, Err, refl, ap, sym, ◌∙◌, arith}
+use Rattle.std.proofs.Common.{◌≡◌, ℕ, Bool, true, false, List, length, take, drop, Ok, Err, refl, ap, sym, ◌∙◌}
 use Rattle.std.specs.Str.{bytes_eq}
-use Rattle.ac_cert_text.specs.declared.fault.Fault.{Fault}
 use Rattle.ac_cert_text.specs.declared.fault.Fault.TheVariants.{Bad}
-use Rattle.ac_cert_text.specs.Codec.{Codec, Outcome, ◌>>=◌, word_as, word_read, judged, tested}
+use Rattle.ac_cert_text.specs.Codec.{Codec, ◌>>=◌, word_read, judged, tested}
 use Rattle.ac_cert_text.proofs.Sound.{ok_of}
 
 pub word-ok : (w l rest : List ℕ) → bytes_eq (take (length w) l) w ≡ true → rest ≡ drop (length w) l → word_read w l ≡ Ok (tt, rest)

@@ -1,11 +1,10 @@
 -- What is read is spelled so, and what is spelled so is read: for each kind of piece, and so for all that are made of them.
-use Rattle.std.proofs.Common.{◌≡◌, ℕ, zero, suc, ◌+◌, ◌<◌, ◌≤◌, Bool, true, false, cond, List, [], ◌∷◌, ◌++◌, length, take, drop, Option, Some, None, Result, Ok, Err, refl, ap, sym, subst, ◌∙◌, arith, append_assoc}
+use Rattle.std.proofs.Common.{◌≡◌, ℕ, zero, suc, Bool, true, false, cond, List, [], ◌∷◌, ◌++◌, length, take, drop, Option, Some, None, Ok, Err, refl, ap, sym, subst, ◌∙◌, append_assoc}
 use Rattle.std.proofs.lemmas.List.{take_at, drop_at, take-append-drop}
 use Rattle.std.proofs.lemmas.Slice.Eq.{bytes_eq-Decides}
 use Rattle.std.specs.Str.{bytes_eq}
 use Rattle.ac_cert_text.specs.declared.fault.Fault.{Fault}
-use Rattle.ac_cert_text.specs.declared.fault.Fault.TheVariants.{Bad, Deep, NoMemory}
-use Rattle.ac_cert_text.specs.Codec.{Codec, Outcome, ◌>>=◌, word_as, word_read, word, after, before, absent, SlotLawful, slot, some_spell, SomeLawful, present, begins, ForkLawful, fork, pair, cons_spell, ConsLawful, cons, each, judged, tested}
+use Rattle.ac_cert_text.specs.Codec.{Codec, Outcome, ◌>>=◌, word_as, word_read, word, after, before, absent, slot, some_spell, SomeLawful, present, begins, ForkLawful, fork, pair, cons_spell, ConsLawful, cons, each, judged, tested}
 
 pub record Sound {A : Type 0} (c : Codec A) : Type 0 where
   pub found : (l : List ℕ) (a : A) (rest : List ℕ) → c.read l ≡ Ok (a, rest) → c.Lawful a × (l ≡ c.spell a ++ rest)

@@ -1,8 +1,8 @@
 -- The text of a tree is read, and what is read is the text of a tree.
-use Rattle.std.proofs.Common.{◌≡◌, ℕ, zero, suc, ◌+◌, ◌-◌, ◌<◌, ◌≤◌, ◌==◌, ◌&&◌, not, Bool, true, false, cond, List, [], ◌∷◌, ◌++◌, length, map, Option, Some, None, Result, Ok, Err, refl, ap, sym, subst, ◌∙◌, arith, append_assoc}
+use Rattle.std.proofs.Common.{◌≡◌, ℕ, ◌+◌, ◌-◌, ◌<◌, ◌≤◌, ◌&&◌, not, Bool, true, List, [], ◌∷◌, ◌++◌, length, map, Option, Some, None, Ok, refl, ap, sym, subst, ◌∙◌, arith, append_assoc}
 use Rattle.std.specs.Prelude.{nat_lt}
 use Rattle.std.specs.List.{list_all}
-use Rattle.std.proofs.lemmas.Bool.{lt-ltb, ltb-true, eqb-true}
+use Rattle.std.proofs.lemmas.Bool.{lt-ltb, ltb-true}
 use Rattle.std.proofs.lemmas.List.{append-nil}
 use Rattle.ac_base.specs.declared.sizes.Part.{Part}
 use Rattle.ac_base.specs.declared.sizes.Part.TheVariants.{Front, Total, Last}
@@ -11,13 +11,10 @@ use Rattle.ac_claim.specs.declared.tree.Tree.TheVariants as variant
 use Rattle.ac_claim.specs.declared.tree.Tree.TheOpen.{Tree-F, Closed, Full, Split}
 use Rattle.ac_claim.specs.declared.tree.Tree.TheViews.{roll-Tree}
 use Rattle.ac_claim.specs.declared.tree.Tree.TheFolds.{fold-Tree, map-Tree, fold-roll-Tree, ind-Tree}
-use Rattle.ac_cert_text.specs.declared.fault.Fault.{Fault}
-use Rattle.ac_cert_text.specs.declared.fault.Fault.TheVariants.{Bad, Deep}
-use Rattle.ac_cert_text.specs.Codec.{Codec, Outcome}
-use Rattle.ac_cert_text.specs.TreeText.{closed_letter, full_letter, joined, node_text, tree_text, is_empty, node_fits, tree_fits, leaf_of, Grown, put, put_some, close, item, grow, tree}
+use Rattle.ac_cert_text.specs.Codec.{Outcome}
+use Rattle.ac_cert_text.specs.TreeText.{closed_letter, full_letter, joined, node_text, tree_text, is_empty, node_fits, tree_fits, put, item, grow}
 use Rattle.ac_cert_text.proofs.Numbers.{both}
-use Rattle.ac_cert_text.proofs.Sound.{Sound, ok_of, err_of, ok_pair}
-use Rattle.ac_cert_text.proofs.Growing.{no-item, step-err, step-done, step-on, step_of}
+use Rattle.ac_cert_text.proofs.Growing.{step-done, step-on, step_of}
 
 -- ---- a tree's text, and whether it fits, by its root
 text-closed : (part : Part) → tree_text (variant.Closed part) ≡ 32 ∷ closed_letter part ∷ []
@@ -181,8 +178,7 @@ put-kept t [] seen held fit is = (fit, is)
 put-kept t (ts ∷ open_) seen held fit is =
     let room : 42 - length (ts ∷ open_) ≡ 42 - (length open_ + 1) = omega arith in
     let fits = subst (λ (k : ℕ). tree_fits t k ≡ true) room fit in
-    let all = joined (map tree_text ts) in
-    (
+    let all = joined (map tree_text ts) in (
       (fit-more (42 - (length open_ + 1)) ts t held.0 fits, held.1, held.2),
       is ∙ (append_assoc (opened open_) (32 ∷ 40 ∷ all) (tree_text t) ∙ ap (λ (x : List ℕ). opened open_ ++ 32 ∷ 40 ∷ x) (sym (joined-more ts t))),
     )

@@ -1,5 +1,5 @@
 -- The text of a certificate, line by line: this project's own.
-use Rattle.std.specs.Prelude.{◌≡◌, ℕ, zero, suc, ◌+◌, ◌^◌, ◌==◌, ◌&&◌, not, nat_le, nat_lt, Bool, true, false, if◌then◌else◌, List, [], ◌∷◌, ◌++◌, length, map, replicate, slice_index, is_some, is_none, Option, Some, None, option_map, Result, Ok, Err, codes}
+use Rattle.std.specs.Prelude.{◌≡◌, ℕ, zero, suc, ◌+◌, ◌^◌, ◌==◌, ◌&&◌, not, nat_le, nat_lt, Bool, true, if◌then◌else◌, List, [], ◌∷◌, map, replicate, slice_index, is_some, is_none, Option, Some, None, option_map, Result, Ok, Err, codes}
 use Rattle.std.specs.Fmt.{decimal}
 use Rattle.std.specs.List.{list_all}
 use Rattle.ac_base.specs.declared.shapes.Shape.{Shape}
@@ -11,7 +11,9 @@ use Rattle.ac_claim.specs.declared.certs.Level.{Level}
 use Rattle.ac_claim.specs.declared.tree.Tree.{Tree}
 use Rattle.ac_cert_text.specs.declared.fault.Fault.{Fault}
 use Rattle.ac_cert_text.specs.declared.fault.Fault.TheVariants.{Bad}
-use Rattle.ac_cert_text.specs.Codec.{Codec, Outcome, ◌>>=◌, word, after, before, number, flag, absent, slot, present, fork, pair, cons, each, tested}
+use Rattle.ac_cert_text.specs.declared.whole.ParseFault.{ParseFault}
+use Rattle.ac_cert_text.specs.declared.whole.ParseFault.TheVariants.{No, NoMemory}
+use Rattle.ac_cert_text.specs.Codec.{Codec, Outcome, ◌>>=◌, after, before, number, flag, absent, slot, present, fork, pair, cons, each, tested}
 use Rattle.ac_cert_text.specs.TreeText.{tree, is_empty}
 
 -- a space behind each of n items but the last, a line feed behind this
@@ -198,6 +200,12 @@ pots_of pots = pots.p
 abbrev pub plain_of : Cert → Plain
 plain_of cert =
     (fields_of cert.shape, (cert.raw.e, ((cert.offset, cert.upper), (cert.assign.w, (cert.top, (option_map pots_of cert.over, offsets_of cert.trees))))))
+
+-- what is answered is what reading the whole text gives, unless memory was wanting
+abbrev pub Answers : Result Cert ParseFault → Outcome Plain → Type 0
+Answers (Ok cert) read = (rest : List ℕ) × (read ≡ Ok (plain_of cert, rest))
+Answers (Err (No fault)) read = (e : Fault × List ℕ) × (read ≡ Err e)
+Answers (Err NoMemory) read = Unit {0}
 
 -- the text stands for the certificate: with 0 in each number that it doesn't state, and the codes 1 0 0 0 0 0 in each word that it doesn't
 pub record Says (bytes : List ℕ) (cert : Cert) : Type 0 where

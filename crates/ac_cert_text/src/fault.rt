@@ -1,7 +1,5 @@
 //! Why a text is refused while it is read.
 
-
-
 /// Why reading ends.
 #[derive(Clone, Copy, Debug, PartialEq, Eq)]
 pub enum Fault {

@@ -57,7 +57,12 @@ fn push(levels: &mut Vec<Level>, level: Level) -> Result<(), Fault>
 }
 
 /// Reads the lines of so many offsets at most, down to 0, and the last line.
-fn levels(alloc: Global, cursor: &mut Cursor, shape: &Shape, count: u32) -> Result<Vec<Level>, Fault>
+fn levels(
+    alloc: Global,
+    cursor: &mut Cursor,
+    shape: &Shape,
+    count: u32,
+) -> Result<Vec<Level>, Fault>
     ensures { Shows offsets_in result cursor.new.rest.now ((levels (fields_of shape.now) count).read cursor.old.rest.now) }
 {
     let mut levels = Vec::new(alloc);

@@ -1,9 +1,6 @@
 //! Texts read.
-ghost use Rattle.std.specs.Prelude.{◌≡◌, IfOk, MatchResult};
-ghost use Rattle.ac_claim.specs.declared.certs.Cert.{Cert};
 ghost use Rattle.ac_cert_text.specs.Codec.{Shows};
-ghost use Rattle.ac_cert_text.specs.Text.{text, plain_of, read_whole, Says};
-ghost use Rattle.ac_cert_text.specs.declared.whole.ParseFault.TheVariants.{NoMemory};
+ghost use Rattle.ac_cert_text.specs.Text.{text, plain_of, read_whole, Answers};
 
 use crate::cursor::Cursor;
 use crate::fault::Fault;
@@ -78,8 +75,7 @@ fn line_of(text: &[u8], rest: &[u8]) -> u32 {
 ///
 /// `No` where the text isn't in the grammar, as `BadText` or `Deep`; `NoMemory` where memory was wanting.
 pub fn parse(alloc: Global, text: &[u8]) -> Result<Cert, ParseFault>
-    ensures found { IfOk result (Says text.now) }
-    ensures only { (cert : Cert) → Says text.now cert → MatchResult result (λ c. c ≡ cert) (λ e. e ≡ NoMemory) }
+    ensures exact { Answers result (read_whole text.now) }
 {
     let mut cursor = Cursor { rest: text };
     match whole(alloc, &mut cursor) {

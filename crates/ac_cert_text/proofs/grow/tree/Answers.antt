@@ -1,4 +1,4 @@
-use Rattle.std.proofs.Common.{◌≡◌, [], Option, reverse, ap, sym, ◌∙◌}
+use Rattle.std.proofs.Common.{[], Option, reverse, ap, sym, ◌∙◌}
 use Rattle.std.proofs.lemmas.Result.{err_from_is_err_and}
 use Rattle.ac_claim.specs.declared.tree.Tree.{Tree}
 use Rattle.ac_cert_text.specs.TreeText.{grow}

@@ -1,4 +1,4 @@
-use Rattle.std.proofs.Common.{◌≡◌, ◌<◌, take, length, arith, length-set, Ok, List, ℕ, ap, ◌∙◌}
+use Rattle.std.proofs.Common.{◌<◌, take, length, arith, length-set, Ok, List, ℕ, ap, ◌∙◌}
 use Rattle.std.proofs.lemmas.List.{take_more_set, take_all}
 use Rattle.std.proofs.lemmas.Result.{err_from_is_err_and}
 use Rattle.ac_cert_text.specs.Codec.{each}
