@@ -11,6 +11,8 @@ mod levels;
 mod number;
 mod pots;
 mod raws;
+#[cfg(test)]
+mod tests;
 mod whole;
 mod words;
 
