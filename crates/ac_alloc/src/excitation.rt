@@ -1,9 +1,9 @@
 //! The excitation of the bands of a coded channel (A/52 7.2.2.4).
 ghost use Rattle.ac_alloc.specs.Integration.{most_density};
 ghost use Rattle.ac_base.specs.Allocation.{bands};
-ghost use Rattle.std.specs.Prelude.{◌≡◌, ◌<◌, ◌≤◌, ◌+◌, ◌*◌, ◌-◌, ◌^◌, ℕ, ℤ, pos, ◌-ℤ◌, ◌≤ℤ◌, unsigned_abs, length, slice_index, slice_index_or, if◌then◌else◌};
+ghost use Rattle.std.specs.Prelude.{◌≡◌, ◌<◌, ◌≤◌, ◌-◌, ℕ, ℤ, pos, ◌-ℤ◌, unsigned_abs, length, slice_index, slice_index_or, if◌then◌else◌};
 ghost use Rattle.std.specs.Int.{int_max};
-ghost use Rattle.ac_alloc.specs.Excitation.{joined, excite, excite_coupling, excite_by, AreBands, most_leak};
+ghost use Rattle.ac_alloc.specs.Excitation.{excite, excite_coupling, excite_by, AreBands, most_leak};
 
 use crate::leaks::leaks;
 use crate::lowcomp::{find_begin, lowcomps};

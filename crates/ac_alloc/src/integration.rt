@@ -1,7 +1,7 @@
 //! The power spectral density of bins, and of bands by log-addition (A/52 7.2.2.2, 7.2.2.3).
 ghost use Rattle.std.specs.Prelude.{◌≡◌, ◌<◌, ◌≤◌, ◌+◌, ◌*◌, ◌-◌, ℕ, slice_index};
-ghost use Rattle.ac_alloc.specs.Integration.{logadd, psd, folded, bndpsd, first_bin, last_bin, AreExponents, most_density, most_psd};
-ghost use Rattle.ac_base.specs.Allocation.{masktab_list, bndtab_list, bins, bands};
+ghost use Rattle.ac_alloc.specs.Integration.{logadd, psd, folded, bndpsd, AreExponents, most_density, most_psd};
+ghost use Rattle.ac_base.specs.Allocation.{bins, bands};
 
 use ac_base::{BANDS, band_start, latab};
 

@@ -1,7 +1,7 @@
 //! The leaks, by which a band masks those above it (A/52 7.2.2.4).
 ghost use Rattle.ac_alloc.specs.Integration.{most_density};
 ghost use Rattle.ac_base.specs.Allocation.{bands};
-ghost use Rattle.std.specs.Prelude.{◌≡◌, ◌<◌, ◌≤◌, ◌+◌, ◌*◌, ◌-◌, ◌^◌, ℕ, ℤ, pos, ◌-ℤ◌, unsigned_abs, length, slice_index, slice_index_or};
+ghost use Rattle.std.specs.Prelude.{◌≡◌, ◌<◌, ◌≤◌, ◌-◌, ℕ, ℤ, pos, ◌-ℤ◌, unsigned_abs, length, slice_index, slice_index_or};
 ghost use Rattle.std.specs.Int.{int_max};
 ghost use Rattle.ac_alloc.specs.Excitation.{leak_from, most_leak};
 

@@ -1,6 +1,6 @@
 //! Low-frequency compensation, and the band at which the leaks begin (A/52 7.2.2.4).
 ghost use Rattle.ac_alloc.specs.Integration.{most_density};
-ghost use Rattle.std.specs.Prelude.{◌≡◌, ◌<◌, ◌≤◌, ◌+◌, ◌*◌, ◌-◌, ℕ, length, slice_index, if◌then◌else◌, true, false};
+ghost use Rattle.std.specs.Prelude.{◌≡◌, ◌<◌, ◌≤◌, ◌+◌, ◌-◌, ℕ, length, slice_index, if◌then◌else◌};
 ghost use Rattle.ac_alloc.specs.Excitation.{lowcomp, low, lowcomp_to, begin};
 
 use ac_base::BANDS;

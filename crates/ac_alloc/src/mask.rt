@@ -1,6 +1,6 @@
 //! The masking curve of a coded channel (A/52 7.2.2.5).
 ghost use Rattle.ac_alloc.specs.Excitation.{most_leak};
-ghost use Rattle.std.specs.Prelude.{◌≡◌, ◌⊎◌, ◌<◌, ◌≤◌, ◌+◌, ◌*◌, ◌-◌, ◌^◌, ℕ, ℤ, pos, ◌-ℤ◌, ◌≤ℤ◌, unsigned_abs, slice_index, slice_index_or, if◌then◌else◌};
+ghost use Rattle.std.specs.Prelude.{◌≡◌, ◌⊎◌, ◌<◌, ◌≤◌, ◌+◌, ◌-◌, ℕ, ℤ, pos, ◌≤ℤ◌, unsigned_abs, slice_index, slice_index_or};
 ghost use Rattle.ac_alloc.specs.Masking.{masked, IsLevel, IsMask, mask, first_band, last_band, most_level};
 ghost use Rattle.ac_alloc.specs.Codes.{knee, floor_of};
 ghost use Rattle.ac_base.specs.Shape.{IsSpan};

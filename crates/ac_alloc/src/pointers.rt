@@ -1,5 +1,5 @@
 //! The bit allocation pointers of the bins of a coded channel (A/52 7.2.2.7).
-ghost use Rattle.std.specs.Prelude.{◌≡◌, ◌<◌, ◌≤◌, ◌+◌, ◌*◌, ◌-◌, ◌^◌, ◌⊎◌, ℕ, ℤ, pos, ◌+ℤ◌, ◌-ℤ◌, ◌≤ℤ◌, unsigned_abs, slice_index, slice_index_or, bit_and, if◌then◌else◌};
+ghost use Rattle.std.specs.Prelude.{◌≡◌, ◌<◌, ◌≤◌, ◌+◌, ◌*◌, ◌-◌, ◌⊎◌, ℕ, ℤ, pos, ◌+ℤ◌, ◌-ℤ◌, slice_index, slice_index_or, bit_and, if◌then◌else◌};
 ghost use Rattle.ac_alloc.specs.Pointers.{natural, snr_offset, level, kept, address, bap_of, bap_under, ArePointers, most_offset};
 ghost use Rattle.ac_alloc.specs.Masking.{IsFloor, IsMaskOf};
 ghost use Rattle.ac_alloc.specs.declared.params.Params.{Params};

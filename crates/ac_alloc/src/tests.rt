@@ -1,5 +1,5 @@
 // Values of the standard's running form, by a program in another language, and of silence.
-ghost use Rattle.std.specs.Prelude.{◌≡◌, ◌≤◌, ◌<◌, ℕ, slice_index};
+ghost use Rattle.std.specs.Prelude.{◌≤◌, ◌<◌, ℕ, slice_index};
 ghost use Rattle.ac_base.specs.Shape.{IsSpan};
 
 use crate::{Mask, Params, address, allocation_laws, bap_of, baps, key_laws, level, psd};

@@ -1,6 +1,6 @@
 //! The tables of the bit allocation, read by index (A/52 7.2.3).
-ghost use Rattle.std.specs.Prelude.{◌≡◌, ◌<◌, ◌≤◌, ◌+◌, ◌*◌, ℕ, slice_index};
-ghost use Rattle.ac_base.specs.Allocation.{bands, bins, latab_list, bndtab_list, masktab_list, hth_list, hth_48, hth_44, hth_32, baptab_list};
+ghost use Rattle.std.specs.Prelude.{◌≡◌, ◌<◌, ◌≤◌, ◌+◌, slice_index};
+ghost use Rattle.ac_base.specs.Allocation.{bands, bins, latab_list, bndtab_list, masktab_list, hth_list, baptab_list};
 
 /// The bands of the bit allocation (A/52 Table 7.12).
 pub const BANDS: usize = 50;

@@ -1,7 +1,7 @@
 //! The cosines of the transforms, of scale 2^30 and period 2048, by their quarter table.
-ghost use Rattle.std.specs.Prelude.{◌≡◌, ◌<◌, ◌≤◌, ◌^◌, ◌+◌, ◌*◌, ◌-◌, ◌/◌, ◌%◌, ℕ, ℤ, pos, neg_ℤ, min, unsigned_abs, slice_index_or};
-ghost use Rattle.ac_base.specs.Quarter.{root, half, angle, pair_at, cosine_of};
-ghost use Rattle.ac_base.specs.Cosine.{quarter_of, IsQuarter, cosine_at};
+ghost use Rattle.std.specs.Prelude.{◌≡◌, ◌<◌, ◌≤◌, ◌^◌, ◌+◌, ◌*◌, ◌-◌, ◌/◌, ◌%◌, pos, neg_ℤ, min, unsigned_abs};
+ghost use Rattle.ac_base.specs.Quarter.{root, angle};
+ghost use Rattle.ac_base.specs.Cosine.{IsQuarter, cosine_at};
 
 use crate::numbers::isqrt;
 

@@ -1,5 +1,5 @@
 //! Whole numbers in fixed point, the square root and the sum of products.
-ghost use Rattle.std.specs.Prelude.{◌≡◌, ◌<◌, ◌≤◌, ◌^◌, ◌+◌, ◌*◌, ◌-◌, ◌/◌, ◌⊎◌, ◌+ℤ◌, ◌*ℤ◌, ℕ, ℤ, pos, unsigned_abs};
+ghost use Rattle.std.specs.Prelude.{◌≡◌, ◌<◌, ◌≤◌, ◌^◌, ◌+◌, ◌*◌, ◌-◌, ◌/◌, ◌⊎◌, ◌+ℤ◌, ◌*ℤ◌, ℤ, pos, unsigned_abs};
 ghost use Rattle.ac_base.specs.Floor.{floor_div};
 ghost use Rattle.ac_base.specs.Sigma.{dot_of, Within};
 

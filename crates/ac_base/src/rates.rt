@@ -1,5 +1,5 @@
 //! The nominal bit rates of A/52 (Table 5.18).
-ghost use Rattle.std.specs.Prelude.{◌≡◌, ◌≤◌, ℕ, slice_index};
+ghost use Rattle.std.specs.Prelude.{◌≡◌, ◌≤◌, slice_index};
 ghost use Rattle.ac_base.specs.Rates.{last_rate_code, rates, is_rate, IsRate, HasCode};
 
 /// How many rates there are (A/52 Table 5.18).

@@ -1,6 +1,5 @@
 //! The shape of a frame: its rate of sampling, channels, bandwidth, coupling and size.
-ghost use Rattle.std.specs.Prelude.{◌≡◌, ◌<◌, ◌≤◌, ◌+◌, ◌*◌, ◌↔◌, ℕ, Option, Some, None, IsSome, IfSome};
-ghost use Rattle.std.specs.Option.{ForSome};
+ghost use Rattle.std.specs.Prelude.{◌≡◌, ◌<◌, ◌≤◌, ◌+◌, ◌↔◌, Option, Some, None, IsSome, IfSome};
 ghost use Rattle.ac_base.specs.Allocation.{bins};
 ghost use Rattle.ac_base.specs.Sizes.{least_words, most_words};
 ghost use Rattle.ac_base.specs.Shape.{IsShape, IsCoupling, full_of, coded_of, span_of, IsSpan};

@@ -1,5 +1,5 @@
 //! The side bits of a frame: the rows of its syntax other than exponents and mantissas.
-ghost use Rattle.std.specs.Prelude.{◌≡◌, ◌≤◌, ◌<◌, ◌+◌, ◌*◌, ℕ, Bool, Option, sum};
+ghost use Rattle.std.specs.Prelude.{◌≡◌, ◌≤◌, ◌+◌, ◌*◌, ℕ, Bool, Option, sum};
 ghost use Rattle.ac_base.specs.Shape.{IsCoupling, subbands, rematrix_bands, is_stereo};
 ghost use Rattle.ac_base.specs.Fit.{side_of};
 ghost use Rattle.ac_base.specs.SideBits.{head_rows, first_block_rows, later_block_rows, side_front, side_total, when, head_formula, first_block_formula, later_block_formula};

@@ -1,5 +1,5 @@
 //! The sizes of frames, and the parts of a frame that have a room of their own.
-ghost use Rattle.std.specs.Prelude.{◌≡◌, ◌≤◌, ◌<◌, ◌^◌, ◌+◌, ◌-◌, ◌*◌, ◌/◌, ◌⊎◌, ◌↔◌, ℕ, IsTrue};
+ghost use Rattle.std.specs.Prelude.{◌≡◌, ◌≤◌, ◌<◌, ◌^◌, ◌+◌, ◌-◌, ◌*◌, ◌/◌, ◌⊎◌, ◌↔◌, IsTrue};
 ghost use Rattle.ac_base.specs.Sizes.{frame_words_of, words_before, table_words, front_words_of, code_words, least_words, most_words};
 ghost use Rattle.ac_base.specs.Rates.{last_rate_code};
 ghost use Rattle.ac_base.specs.Fit.{FitIn, rooms_of};

@@ -1,5 +1,5 @@
 //! The window of the transforms, 512 places of scale 2^15, by its first half (A/52 Table 7.33).
-ghost use Rattle.std.specs.Prelude.{◌≡◌, ◌<◌, ◌≤◌, ◌^◌, ℕ, pos, slice_index, unsigned_abs};
+ghost use Rattle.std.specs.Prelude.{◌≡◌, ◌<◌, ◌≤◌, ◌^◌, slice_index, unsigned_abs};
 ghost use Rattle.ac_base.specs.Window.{window_list, window_of};
 
 /// Places 0 to 255; the others are the same backwards.

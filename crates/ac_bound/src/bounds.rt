@@ -1,7 +1,6 @@
 //! Lower bounds of partial assignments.
 ghost use Rattle.std.specs.Prelude.{◌≡◌, ◌<◌, ◌≤◌, ◌+◌, ◌*◌, ◌^◌, ◌↔◌, ℕ, IsTrue, slice_index};
 ghost use Rattle.ac_base.specs.Fit.{side_of};
-ghost use Rattle.ac_expo.specs.Raw.{channels};
 ghost use Rattle.ac_cost.specs.Sixths.{part_of};
 ghost use Rattle.ac_bound.specs.Ways.{potential};
 ghost use Rattle.ac_bound.specs.Bounds.{IsPartial, rest_of, lower_of, IsOver};

@@ -1,5 +1,5 @@
 //! The root offset.
-ghost use Rattle.std.specs.Prelude.{◌≡◌, ◌<◌, ◌≤◌, ◌↔◌, ℕ, IsTrue};
+ghost use Rattle.std.specs.Prelude.{◌≡◌, ◌≤◌, ◌↔◌, ℕ, IsTrue};
 ghost use Rattle.ac_cost.specs.Parts.{FitsAt, IsFeasible, cheapest_assign};
 ghost use Rattle.ac_bound.specs.Roots.{IsClosed, IsRoot};
 

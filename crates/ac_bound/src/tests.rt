@@ -1,5 +1,5 @@
 // Bounds of silence, which are worked out by hand, and of frames by a program in another language.
-ghost use Rattle.std.specs.Prelude.{◌≡◌, ℕ, List, IsTrue};
+ghost use Rattle.std.specs.Prelude.{ℕ, List, IsTrue};
 ghost use Rattle.ac_cost.specs.Parts.{FitsAt, cheapest_assign};
 
 use crate::{Partial, Pots, bound_laws, is_over, lower, root_offset};

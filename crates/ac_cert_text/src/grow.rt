@@ -1,5 +1,5 @@
 //! Trees, item by item.
-ghost use Rattle.std.specs.Prelude.{◌≡◌, ◌++◌, ◌∷◌, ◌≤◌, ◌<◌, ℕ, List, [], length, reverse, IfOk, MatchOption, Option, Some, None, Ok, Err};
+ghost use Rattle.std.specs.Prelude.{◌≡◌, ◌∷◌, ◌<◌, ℕ, List, [], reverse, IfOk, MatchOption, Option, Some, None, Ok, Err};
 ghost use Rattle.ac_cert_text.specs.Codec.{Gives};
 ghost use Rattle.ac_cert_text.specs.TreeText.{leaf_of, put, close, item, grow, tree, Steps};
 

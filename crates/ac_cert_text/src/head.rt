@@ -1,7 +1,6 @@
 //! The lines of the shape, the claim and the top.
-ghost use Rattle.std.specs.Prelude.{◌≡◌, ◌&&◌, ℕ, nat_le};
 ghost use Rattle.ac_cert_text.specs.Codec.{Shows, Gives, number, flag, pair};
-ghost use Rattle.ac_cert_text.specs.Text.{couple, fields_of, is_shape, fields, shape_line, claim, top};
+ghost use Rattle.ac_cert_text.specs.Text.{couple, fields_of, fields, shape_line, claim, top};
 
 use crate::cursor::Cursor;
 use crate::fault::Fault;

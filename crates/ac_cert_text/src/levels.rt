@@ -1,5 +1,5 @@
 //! The lines of an offset.
-ghost use Rattle.std.specs.Prelude.{◌≡◌, ◌+◌, ◌≤◌, ◌<◌, ◌&&◌, ◌++◌, ◌∷◌, [], nat_lt, ℕ, List, OnOk, IfErr};
+ghost use Rattle.std.specs.Prelude.{◌≡◌, ◌+◌, ◌<◌, ◌&&◌, ◌++◌, ◌∷◌, [], nat_lt, OnOk, IfErr};
 ghost use Rattle.ac_cert_text.specs.Codec.{Shows, Gives, begins};
 ghost use Rattle.ac_cert_text.specs.declared.fault.Fault.TheVariants.{NoMemory};
 ghost use Rattle.ac_cert_text.specs.Text.{fields_of, tree_line, level, levels, over, offset_of};

@@ -1,5 +1,5 @@
 //! Numbers in decimal digits.
-ghost use Rattle.std.specs.Prelude.{◌≡◌, ℕ, ◌+◌, ◌-◌, ◌*◌, ◌^◌, ◌<◌, ◌≤◌, List, Option, Some, None, if◌then◌else◌, option_map, IfSome};
+ghost use Rattle.std.specs.Prelude.{◌≡◌, ◌+◌, ◌-◌, ◌*◌, ◌^◌, ◌<◌, ◌≤◌, Option, Some, None, if◌then◌else◌, option_map, IfSome};
 ghost use Rattle.ac_cert_text.specs.Codec.{fits, digits, number_of};
 ghost use Rattle.ac_cert_text.specs.Views.{value_and_rest};
 

@@ -1,5 +1,4 @@
 //! The lines of potentials.
-ghost use Rattle.std.specs.Prelude.{◌≡◌, ◌≤◌, ℕ};
 ghost use Rattle.ac_cert_text.specs.Codec.{Shows, Gives, each};
 ghost use Rattle.ac_cert_text.specs.Text.{fields_of, potential, pot_line, pot_lines, pots, pots_of};
 

@@ -1,7 +1,6 @@
 //! The lines of the raw exponents.
-ghost use Rattle.std.specs.Prelude.{◌≡◌, ◌≤◌, ℕ};
 ghost use Rattle.ac_cert_text.specs.Codec.{Shows, Gives, each};
-ghost use Rattle.ac_cert_text.specs.Text.{end_at, fields_of, bin, row, raw_line, raw_lines, raws};
+ghost use Rattle.ac_cert_text.specs.Text.{fields_of, bin, row, raw_line, raw_lines, raws};
 
 use crate::cursor::Cursor;
 use crate::fault::Fault;

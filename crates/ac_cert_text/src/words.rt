@@ -1,5 +1,5 @@
 //! The lines of the strategy words.
-ghost use Rattle.std.specs.Prelude.{◌≡◌, ℕ, length, IfOk};
+ghost use Rattle.std.specs.Prelude.{◌≡◌, length, IfOk};
 ghost use Rattle.ac_cert_text.specs.Codec.{Shows, Gives, each, tested};
 ghost use Rattle.ac_cert_text.specs.Text.{fields_of, is_word, code, word_line, word_at, words};
 

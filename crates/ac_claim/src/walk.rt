@@ -1,5 +1,5 @@
 //! The runs of a partial assignment, one by one.
-ghost use Rattle.std.specs.Prelude.{◌≡◌, ◌≤◌, ◌<◌, ◌+◌, ◌^◌, ◌*◌, ℕ, slice_index, [], ◌∷◌, IfSome, MatchOption};
+ghost use Rattle.std.specs.Prelude.{◌≡◌, ◌≤◌, ◌<◌, ◌+◌, ◌^◌, ℕ, slice_index, [], ◌∷◌, IfSome, MatchOption};
 ghost use Rattle.ac_seek.specs.Games.{IsNext, channel_of, boundary_of, channel_after, boundary_after};
 ghost use Rattle.ac_seek.specs.Walks.{later_steps};
 ghost use Rattle.ac_seek.specs.Words.{game_of};

@@ -1,6 +1,5 @@
 //! Readers of single fields. After a refusal the source stands where the field began.
-ghost use Rattle.std.specs.Prelude.{◌≡◌, ℕ, ◌+◌, ◌<◌, ◌≤◌, ◌^◌, ◌++◌, ◌&&◌, List, length, drop, nat_lt, nat_le, Bool, true, false, IfOk};
-ghost use Rattle.std.specs.Prelude.{IfErr};
+ghost use Rattle.std.specs.Prelude.{◌≡◌, ◌<◌, ◌≤◌, ◌^◌, ◌&&◌, length, drop, nat_lt, nat_le, true, false, IfOk};
 ghost use Rattle.ac_codec.specs.Codec.{Codec, Gives, GivesPart, free, field, any, below, reused, flag, tested_bit, one_where, zero_where};
 ghost use Rattle.ac_codec.specs.Codec.{given, slot, each};
 

@@ -1,5 +1,5 @@
 //! Writers of single fields.
-ghost use Rattle.std.specs.Prelude.{◌≡◌, ℕ, ◌+◌, ◌<◌, ◌≤◌, ◌^◌, ◌++◌, ◌∷◌, [], List, length, replicate, Bool, true, false};
+ghost use Rattle.std.specs.Prelude.{◌≡◌, ◌+◌, ◌<◌, ◌≤◌, ◌^◌, ◌∷◌, [], length, replicate, true, false};
 ghost use Rattle.std.specs.Option.{ForSome};
 ghost use Rattle.ac_bits.specs.Bits.{bits, Appends};
 ghost use Rattle.ac_codec.specs.Codec.{some_spell, slot_spell};

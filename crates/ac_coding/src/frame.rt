@@ -6,7 +6,7 @@ ghost use Rattle.ac_cost.specs.Runs.{IsAssignmentOf};
 ghost use Rattle.ac_cost.specs.Parts.{FitsAt};
 ghost use Rattle.ac_record.specs.Frames.{FrameCodes};
 ghost use Rattle.ac_record.specs.Readings.{IsReading};
-ghost use Rattle.ac_sent.specs.Asked.{IsSizeCode, IsQuantised};
+ghost use Rattle.ac_sent.specs.Asked.{IsSizeCode};
 ghost use Rattle.ac_sent.specs.Fields.{coordinate_at};
 ghost use Rattle.ac_sent.specs.Laws.{IsBack};
 ghost use Rattle.ac_energy.specs.Coefficients.{entry};

@@ -1,6 +1,5 @@
 //! The run that has a block.
 ghost use Rattle.std.specs.Prelude.{◌≡◌, ◌<◌};
-ghost use Rattle.ac_base.specs.Words.{runs_of, word_of};
 ghost use Rattle.ac_cost.specs.Runs.{has, run_with};
 ghost use Rattle.ac_coding.specs.Values.{run_at};
 

@@ -1,7 +1,7 @@
 //! The polynomial transform of 256 numbers: 32 rows of 16, each followed by the 8 sums that Karatsuba's products ask for.
-ghost use Rattle.std.specs.Prelude.{◌≡◌, ◌<◌, ◌≤◌, ◌^◌, ◌+◌, ◌-◌, ◌*◌, ◌%◌, ◌+ℤ◌, ◌-ℤ◌, ℕ, ℤ, pos, neg_ℤ, unsigned_abs};
-ghost use Rattle.ac_base.specs.Sigma.{Within, Lists, sigma};
-ghost use Rattle.ac_convolution.specs.Negacyclic.{wave, items};
+ghost use Rattle.std.specs.Prelude.{◌≡◌, ◌<◌, ◌≤◌, ◌^◌, ◌+◌, ◌-◌, ◌*◌, ◌%◌, ◌+ℤ◌, ◌-ℤ◌, ℤ, unsigned_abs};
+ghost use Rattle.ac_base.specs.Sigma.{Within, Lists};
+ghost use Rattle.ac_convolution.specs.Negacyclic.{items};
 ghost use Rattle.ac_convolution.specs.Rows.{row, Rows, RowsWithin};
 ghost use Rattle.ac_convolution.specs.Transform.{spread_of, forward_of, half_of, parts_of};
 

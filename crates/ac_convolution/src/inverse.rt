@@ -1,6 +1,6 @@
 //! The polynomial transform back: four classes of 8 rows, then 16 rows, each 32 times a row of the correlation.
-ghost use Rattle.std.specs.Prelude.{◌≡◌, ◌<◌, ◌≤◌, ◌^◌, ◌+◌, ◌-◌, ◌*◌, ◌/◌, ◌%◌, ◌+ℤ◌, ◌-ℤ◌, ◌*ℤ◌, ℕ, ℤ, pos, neg_ℤ, unsigned_abs};
-ghost use Rattle.ac_base.specs.Sigma.{Within, Lists, sigma};
+ghost use Rattle.std.specs.Prelude.{◌<◌, ◌^◌, ◌+◌, ◌-◌, ◌*◌, ◌%◌, ◌+ℤ◌, ◌-ℤ◌, ℤ};
+ghost use Rattle.ac_base.specs.Sigma.{Within, Lists};
 ghost use Rattle.ac_convolution.specs.Negacyclic.{wave, items};
 ghost use Rattle.ac_convolution.specs.Rows.{row, Rows, RowsWithin};
 ghost use Rattle.ac_convolution.specs.Transform.{inverse_of, eighth_of, class_of, waves_of};

@@ -1,6 +1,6 @@
 //! The products row by row. One step of Karatsuba's makes each of 16 numbers by 16 from three times 8 by 8.
-ghost use Rattle.std.specs.Prelude.{◌≡◌, ◌<◌, ◌≤◌, ◌^◌, ◌+◌, ◌-◌, ◌*◌, ◌+ℤ◌, ◌-ℤ◌, ◌*ℤ◌, ℕ, ℤ, pos, neg_ℤ, unsigned_abs};
-ghost use Rattle.ac_base.specs.Sigma.{Within, Lists, sigma};
+ghost use Rattle.std.specs.Prelude.{◌≡◌, ◌<◌, ◌≤◌, ◌^◌, ◌+◌, ◌-◌, ◌*◌, ◌+ℤ◌, ◌*ℤ◌, ℤ, unsigned_abs};
+ghost use Rattle.ac_base.specs.Sigma.{Within, Lists};
 ghost use Rattle.ac_convolution.specs.Negacyclic.{items};
 ghost use Rattle.ac_convolution.specs.Rows.{row, Rows, RowsWithin};
 ghost use Rattle.ac_convolution.specs.Transform.{eight_of, joined_of};

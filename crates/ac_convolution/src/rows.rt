@@ -1,5 +1,5 @@
 //! 256 numbers as 16 rows of every sixteenth, each with its opposite behind it and once more itself: a turn reads on.
-ghost use Rattle.std.specs.Prelude.{◌≡◌, ◌<◌, ◌≤◌, ◌^◌, ◌+◌, ◌*◌, ◌+ℤ◌, ℕ, ℤ, pos, neg_ℤ, unsigned_abs};
+ghost use Rattle.std.specs.Prelude.{◌≡◌, ◌<◌, ◌≤◌, ◌^◌, ◌+◌, ◌*◌, neg_ℤ, unsigned_abs};
 ghost use Rattle.ac_base.specs.Sigma.{Within, Lists};
 ghost use Rattle.ac_convolution.specs.Negacyclic.{wave, items};
 ghost use Rattle.ac_convolution.specs.Rows.{Rows, RowsWithin};

@@ -1,5 +1,5 @@
 //! The correlation of numbers that are 0 but at a few places: place by place.
-ghost use Rattle.std.specs.Prelude.{◌≡◌, ◌<◌, ◌≤◌, ◌^◌, ◌+◌, ◌*◌, ◌/◌, ◌%◌, ◌+ℤ◌, ◌*ℤ◌, ℕ, ℤ, pos, neg_ℤ, unsigned_abs};
+ghost use Rattle.std.specs.Prelude.{◌≡◌, ◌<◌, ◌≤◌, ◌^◌, ◌+◌, ◌*◌, ◌/◌, ◌%◌, ◌+ℤ◌, ◌*ℤ◌, ℤ, unsigned_abs};
 ghost use Rattle.ac_base.specs.Sigma.{Within, Lists, sigma};
 ghost use Rattle.ac_convolution.specs.Negacyclic.{wave, items, negacyclic};
 

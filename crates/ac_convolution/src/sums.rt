@@ -1,7 +1,7 @@
 //! The correlation, from the two halves of the factors: 15 bits each, so that products fit 64-bit lanes.
-ghost use Rattle.std.specs.Prelude.{◌≡◌, ◌<◌, ◌≤◌, ◌^◌, ◌+◌, ◌*◌, ◌/◌, ◌%◌, ◌+ℤ◌, ◌*ℤ◌, ℕ, ℤ, pos, neg_ℤ, unsigned_abs};
+ghost use Rattle.std.specs.Prelude.{◌≡◌, ◌<◌, ◌≤◌, ◌^◌, ◌+◌, ◌*◌, ◌/◌, ◌%◌, ◌*ℤ◌, ℤ, pos, unsigned_abs};
 ghost use Rattle.ac_base.specs.Floor.{floor_div};
-ghost use Rattle.ac_base.specs.Sigma.{Within, Lists, sigma};
+ghost use Rattle.ac_base.specs.Sigma.{Within, Lists};
 ghost use Rattle.ac_convolution.specs.Negacyclic.{wave, items, negacyclic};
 ghost use Rattle.ac_convolution.specs.Rows.{row, Rows, RowsWithin};
 ghost use Rattle.ac_convolution.specs.Transform.{inverse_of, joined_of, whole_of, IsTable};

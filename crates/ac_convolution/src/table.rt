@@ -1,9 +1,8 @@
 //! The table of 256 factors: the polynomial transforms of their two halves, laid out for Karatsuba's products.
-ghost use Rattle.std.specs.Prelude.{◌≡◌, ◌<◌, ◌≤◌, ◌^◌, ◌+◌, ◌*◌, ◌/◌, ◌%◌, ◌+ℤ◌, ◌-ℤ◌, ◌*ℤ◌, ℕ, ℤ, pos, neg_ℤ, unsigned_abs};
-ghost use Rattle.ac_base.specs.Floor.{floor_div};
-ghost use Rattle.ac_base.specs.Sigma.{Within, Lists, sigma};
+ghost use Rattle.std.specs.Prelude.{◌≡◌, ◌<◌, ◌≤◌, ◌^◌, ◌+◌, ◌*◌, ◌/◌, ◌%◌, unsigned_abs};
+ghost use Rattle.ac_base.specs.Sigma.{Within, Lists};
 ghost use Rattle.ac_convolution.specs.Negacyclic.{wave, items};
-ghost use Rattle.ac_convolution.specs.Rows.{row, Rows, RowsWithin};
+ghost use Rattle.ac_convolution.specs.Rows.{row, Rows};
 ghost use Rattle.ac_convolution.specs.Transform.{kernel_of, kernel_parts, table_of, high_of, low_of, IsTable};
 
 use crate::wide::{difference, opposite, sum};

@@ -2,7 +2,7 @@
 //! when they are folded: a negacyclic correlation with one list of factors, whose table is written out and proved.
 #![tactic(auto)]
 
-ghost use Rattle.std.specs.Prelude.{◌≡◌, ◌<◌, ◌≤◌, ◌^◌, ◌+◌, ◌*ℤ◌, ℕ, pos, unsigned_abs, slice_index_or};
+ghost use Rattle.std.specs.Prelude.{◌<◌, ◌≤◌, ◌^◌, ◌+◌, ◌*ℤ◌};
 ghost use Rattle.ac_base.specs.Sigma.{Lists, Within, sigma};
 ghost use Rattle.ac_base.specs.Cosine.{cosine_at};
 ghost use Rattle.ac_convolution.specs.Negacyclic.{items};

@@ -2,7 +2,7 @@
 ghost use Rattle.std.specs.Prelude.{◌≡◌, ◌<◌, ◌≤◌, ◌+◌, ◌*◌, ◌^◌, ℕ, slice_index};
 ghost use Rattle.ac_base.specs.Fit.{list_bits, exponent_bits, side_of};
 ghost use Rattle.ac_base.specs.Shape.{IsSpan};
-ghost use Rattle.ac_base.specs.Spans.{IsKind, greatest_kind};
+ghost use Rattle.ac_base.specs.Spans.{greatest_kind};
 ghost use Rattle.ac_cost.specs.Runs.{has};
 ghost use Rattle.ac_cost.specs.Sixths.{in_blocks, costs_by_part};
 

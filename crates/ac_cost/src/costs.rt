@@ -1,5 +1,5 @@
 //! What tells the costs of the runs of a frame at an offset.
-ghost use Rattle.std.specs.Prelude.{◌≡◌, ◌<◌, ◌≤◌, ◌^◌, ℕ, slice_index};
+ghost use Rattle.std.specs.Prelude.{◌≡◌, ◌≤◌, ◌^◌, ℕ, slice_index};
 ghost use Rattle.ac_mant.specs.Counts.{tally};
 ghost use Rattle.ac_cost.specs.Pointers.{run_tally};
 ghost use Rattle.ac_cost.specs.Prices.{AreFew};

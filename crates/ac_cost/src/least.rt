@@ -1,5 +1,5 @@
 //! The cheapest assignment of a shape.
-ghost use Rattle.std.specs.Prelude.{◌≡◌, ◌≤◌, ◌+◌, ◌*◌, List, ℕ};
+ghost use Rattle.std.specs.Prelude.{◌≡◌, ◌≤◌, ◌+◌, List, ℕ};
 ghost use Rattle.ac_base.specs.Fit.{exponents_in};
 ghost use Rattle.ac_base.specs.Spans.{greatest_kind};
 ghost use Rattle.ac_expo.specs.Raw.{channels, channel_span};

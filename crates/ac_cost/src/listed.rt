@@ -1,11 +1,10 @@
 //! What a run has at every offset: its exponents and its mask.
-ghost use Rattle.std.specs.Prelude.{◌≡◌, ◌<◌, ◌≤◌, ℕ, [], slice_index, slice_index_or};
+ghost use Rattle.std.specs.Prelude.{◌<◌, ℕ, [], slice_index_or};
 ghost use Rattle.ac_base.specs.Allocation.{bins};
 ghost use Rattle.ac_expo.specs.Raw.{channels};
 ghost use Rattle.ac_alloc.specs.Integration.{AreExponents};
 ghost use Rattle.ac_cost.specs.Runs.{IsRunOf};
-ghost use Rattle.ac_cost.specs.Rows.{run_of};
-ghost use Rattle.ac_cost.specs.Lists.{not_listed, IsListed, AreListed};
+ghost use Rattle.ac_cost.specs.Lists.{IsListed, AreListed};
 
 use crate::rows::{row_count, run_at};
 use ac_alloc::{Mask, Params};

@@ -1,13 +1,10 @@
 //! The bits of a frame's parts by an assignment.
-ghost use Rattle.std.specs.Prelude.{◌≡◌, ◌<◌, ◌≤◌, ◌+◌, ◌*◌, ◌^◌, ◌↔◌, IsTrue, ℕ, List, [], slice_index, slice_index_or};
+ghost use Rattle.std.specs.Prelude.{◌≡◌, ◌<◌, ◌≤◌, ◌+◌, ◌*◌, ◌^◌, ◌↔◌, IsTrue, ℕ, [], slice_index, slice_index_or};
 ghost use Rattle.ac_base.specs.Counts.{joined, exact_of};
-ghost use Rattle.ac_base.specs.Fit.{tally_channels, exponents_in};
 ghost use Rattle.ac_base.specs.Sigma.{sum_below};
 ghost use Rattle.ac_base.specs.Words.{IsWord, runs_of, word_of};
-ghost use Rattle.ac_expo.specs.Raw.{channels, channel_span};
 ghost use Rattle.ac_mant.specs.Counts.{tally};
 ghost use Rattle.ac_cost.specs.Runs.{run_with, IsAssignmentOf, TakesLow};
-ghost use Rattle.ac_cost.specs.Pointers.{pointers};
 ghost use Rattle.ac_cost.specs.Parts.{parts_at, FitsAt};
 ghost use Rattle.ac_cost.specs.Prices.{AreFew};
 ghost use Rattle.ac_cost.specs.Blocks.{counts_at, exponents_at, mantissas_at};

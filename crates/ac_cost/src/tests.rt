@@ -1,5 +1,5 @@
 // Costs of silence, which are worked out by hand, and of assignments by a program in another language.
-ghost use Rattle.std.specs.Prelude.{◌≡◌, ◌≤◌, ◌<◌, IsTrue};
+ghost use Rattle.std.specs.Prelude.{◌≡◌, ◌<◌, IsTrue};
 ghost use Rattle.ac_base.specs.Spans.{greatest_kind};
 ghost use Rattle.ac_cost.specs.Runs.{TakesLow};
 

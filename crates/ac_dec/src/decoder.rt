@@ -1,5 +1,5 @@
 //! The decoder of a stream, frame by frame.
-ghost use Rattle.std.specs.Prelude.{◌≡◌, ◌⊎◌, ℕ, ◌+◌, ◌^◌, ◌<◌, ◌≤◌, [], slice_index_or, Ok, Err, IfOk, IfErr, IsOk};
+ghost use Rattle.std.specs.Prelude.{◌≡◌, ℕ, ◌+◌, ◌^◌, ◌<◌, ◌≤◌, [], slice_index_or, Ok, Err, IfOk, IfErr, IsOk};
 ghost use Rattle.std.specs.Option.{ForSome};
 ghost use Rattle.ac_base.specs.Shape.{full_of, count_of};
 ghost use Rattle.ac_base.specs.Sigma.{Within};

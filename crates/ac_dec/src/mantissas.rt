@@ -2,8 +2,7 @@
 ghost use Rattle.std.specs.Prelude.{◌≡◌, true, ℕ, ◌<◌, ◌≤◌, ◌^◌, [], slice_index, slice_index_or, unsigned_abs};
 ghost use Rattle.ac_base.specs.Sigma.{Within, Lists};
 ghost use Rattle.ac_energy.specs.Coefficients.{entry};
-ghost use Rattle.ac_mant.specs.Quantiser.{IsCode, value_of};
-ghost use Rattle.ac_record.specs.Readings.{cell};
+ghost use Rattle.ac_mant.specs.Quantiser.{value_of};
 ghost use Rattle.ac_dec.specs.Heard.{values_of};
 ghost use Rattle.ac_dec.specs.Values.{IsReadable, IsReadableRow, AreReadableRows, AreReadable};
 

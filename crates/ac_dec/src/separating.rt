@@ -1,8 +1,8 @@
 //! The coefficients of a frame from its values: coupled channels taken apart, then left and right (A/52 7.4.3, 7.5.3).
-ghost use Rattle.std.specs.Prelude.{◌≡◌, ◌≢◌, ℕ, ◌<◌, ◌≤◌, ◌^◌, false, slice_index_or, unsigned_abs};
+ghost use Rattle.std.specs.Prelude.{◌≡◌, ◌≢◌, ℕ, ◌<◌, false, slice_index_or};
 ghost use Rattle.ac_energy.specs.Coefficients.{entry};
 ghost use Rattle.ac_rows.specs.Filled.{holds, HasSpans};
-ghost use Rattle.ac_dec.specs.Heard.{block_at, values_of, separated_of};
+ghost use Rattle.ac_dec.specs.Heard.{block_at};
 ghost use Rattle.ac_dec.specs.Separated.{HasValues, HasSeparated};
 
 use ac_base::Coefs;

@@ -2,8 +2,7 @@
 ghost use Rattle.std.specs.Prelude.{◌≡◌, ◌⊎◌, ℕ, ◌+◌, ◌*◌, ◌^◌, ◌<◌, ◌≤◌, [], pos, slice_index_or};
 ghost use Rattle.ac_base.specs.Shape.{count_of};
 ghost use Rattle.ac_base.specs.Sigma.{Within};
-ghost use Rattle.ac_mdct.specs.Inverse.{IsSound, IsDelay};
-ghost use Rattle.ac_dec.specs.Sound.{delay_at, sample_at};
+ghost use Rattle.ac_mdct.specs.Inverse.{IsDelay};
 ghost use Rattle.ac_dec.specs.Sounding.{row_at, coded_block, IsBlockSound, AreSounds, AreRest};
 
 use ac_base::Coefs;

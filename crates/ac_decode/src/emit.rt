@@ -1,5 +1,5 @@
 //! What a decoded frame adds to the WAV, and its line, written.
-ghost use Rattle.std.specs.Prelude.{◌≡◌, ◌≤◌, ◌++◌, OnOk, OnErr, IfErr};
+ghost use Rattle.std.specs.Prelude.{◌≤◌, ◌++◌, OnOk, OnErr, IfErr};
 ghost use Rattle.ac_io.specs.Outside.{Rose, Adds, AddsFront};
 ghost use Rattle.ac_wav.specs.Written.{head_bytes, frame_samples};
 ghost use Rattle.ac_world.specs.Emits.{Emits, RoseAt};

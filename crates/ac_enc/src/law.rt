@@ -1,5 +1,5 @@
 //! What holds of every frame.
-ghost use Rattle.std.specs.Prelude.{◌↔◌, ◌⊎◌, ◌≡◌, ℕ, ◌+◌, ◌*◌, ◌/◌, ◌<◌, ◌≤◌, List, length, take, drop, false, Option, Some, None};
+ghost use Rattle.std.specs.Prelude.{◌↔◌, ◌⊎◌, ◌≡◌, ℕ, ◌+◌, ◌*◌, ◌/◌, ◌<◌, ◌≤◌, List, length, take, drop, false, Option, None};
 ghost use Rattle.ac_base.specs.Rates.{IsRate};
 ghost use Rattle.ac_base.specs.Sizes.{frame_words_of, table_words, words_before};
 ghost use Rattle.ac_bits.specs.Bits.{bits_of};

@@ -1,8 +1,7 @@
 //! The shape of a frame, with coupling or without.
 ghost use Rattle.std.specs.Prelude.{◌≡◌, ◌⊎◌, ◌↔◌, ℕ, ◌+◌, ◌*◌, ◌<◌, ◌≤◌, ◌&&◌, ◌||◌, not, nat_le, if◌then◌else◌, is_some, true, List, Option, Some, None, MatchOption, IfOk, IfErr, IsTrue};
 ghost use Rattle.std.specs.Option.{ForSome};
-ghost use Rattle.ac_base.specs.Fit.{FitIn};
-ghost use Rattle.ac_base.specs.Shape.{full_of, IsCoupling};
+ghost use Rattle.ac_base.specs.Shape.{IsCoupling};
 ghost use Rattle.ac_base.specs.Sizes.{least_words, most_words, table_words};
 ghost use Rattle.ac_cost.specs.Parts.{FitsAt, cheapest_assign};
 ghost use Rattle.ac_coupling.specs.Coupling.{AreSmallCoupled};

@@ -1,5 +1,5 @@
 //! The coefficients of a frame's six blocks.
-ghost use Rattle.std.specs.Prelude.{◌≡◌, ℕ, ◌+◌, ◌*◌, ◌-◌, ◌^◌, ◌<◌, ◌≤◌, [], ◌++◌, length, slice_index_or, ℤ, pos, unsigned_abs};
+ghost use Rattle.std.specs.Prelude.{◌≡◌, ℕ, ◌+◌, ◌*◌, ◌-◌, ◌^◌, ◌<◌, ◌≤◌, [], length, slice_index_or, unsigned_abs};
 ghost use Rattle.ac_base.specs.Sigma.{Within, Lists};
 ghost use Rattle.ac_enc.specs.Frame.{coefficient_at, AreTransformed, joined, joined_by};
 

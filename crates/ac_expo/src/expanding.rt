@@ -1,12 +1,11 @@
 //! From groups to exponents.
-ghost use Rattle.std.specs.Prelude.{◌≡◌, ◌≢◌, ◌↔◌, ◌⊎◌, ℕ, ◌+◌, ◌-◌, ◌*◌, ◌<◌, ◌≤◌};
+ghost use Rattle.std.specs.Prelude.{◌≡◌, ◌↔◌, ℕ, ◌+◌, ◌-◌, ◌*◌, ◌<◌, ◌≤◌};
 ghost use Rattle.std.specs.Prelude.{IsTrue, IfOk, IfErr, MatchOption, MatchResult, length, slice_index};
-ghost use Rattle.ac_base.specs.Spans.{IsIn, IsKind, is_coupling};
+ghost use Rattle.ac_base.specs.Spans.{IsIn, IsKind};
 ghost use Rattle.ac_base.specs.Shape.{IsSpan};
 ghost use Rattle.ac_base.specs.Spans.{groups_of};
-ghost use Rattle.ac_expo.specs.Steps.{step_of, bin_of, last_step};
 ghost use Rattle.ac_expo.specs.Greatest.{IsSpellable};
-ghost use Rattle.ac_expo.specs.Groups.{mapped_of, sum_to, spelled_exponent, IsRefused, IsFirstRefused, NoneRefused, IsExpanded};
+ghost use Rattle.ac_expo.specs.Groups.{mapped_of, sum_to, IsRefused, IsFirstRefused, NoneRefused, IsExpanded};
 ghost use Rattle.ac_expo.specs.Sums.{IsBadSum, HasBadSum, AreGoodSums, AreOfSums};
 
 use crate::grouping::before;

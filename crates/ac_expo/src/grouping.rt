@@ -1,11 +1,11 @@
 //! From a list of exponents to its groups.
 ghost use Rattle.std.specs.Prelude.{◌≡◌, ℕ, ◌+◌, ◌-◌, ◌*◌, ◌<◌, ◌≤◌, length, slice_index};
-ghost use Rattle.ac_base.specs.Spans.{IsIn, IsKind, is_coupling};
+ghost use Rattle.ac_base.specs.Spans.{IsKind};
 ghost use Rattle.ac_base.specs.Shape.{IsSpan};
 ghost use Rattle.ac_base.specs.Spans.{groups_of};
-ghost use Rattle.ac_expo.specs.Steps.{step_of, bin_of, last_step};
+ghost use Rattle.ac_expo.specs.Steps.{bin_of};
 ghost use Rattle.ac_expo.specs.Greatest.{IsSpellable};
-ghost use Rattle.ac_expo.specs.Groups.{first_of, reference, past, at_step, mapped, group_of, groups_below, spelled_of};
+ghost use Rattle.ac_expo.specs.Groups.{first_of, reference, past, at_step, mapped, group_of, spelled_of};
 
 use crate::spelled::Spelled;
 use crate::steps::{coupling, groups, step};

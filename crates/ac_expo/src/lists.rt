@@ -1,10 +1,9 @@
 //! The exponents of a run: the greatest list that its kind can spell and that is at most the raw exponents.
-ghost use Rattle.std.specs.Prelude.{◌≡◌, ℕ, ◌+◌, ◌-◌, ◌*◌, ◌<◌, ◌≤◌, min, [], length, slice_index, slice_index_or};
+ghost use Rattle.std.specs.Prelude.{◌≡◌, ℕ, ◌+◌, ◌-◌, ◌*◌, ◌<◌, ◌≤◌, min, slice_index};
 ghost use Rattle.ac_base.specs.Spans.{IsIn, IsKind, is_coupling};
 ghost use Rattle.ac_base.specs.Shape.{IsSpan};
-ghost use Rattle.ac_expo.specs.Steps.{step_of, last_step};
-ghost use Rattle.ac_expo.specs.Least.{spread};
-ghost use Rattle.ac_expo.specs.Greatest.{IsGreatest, IsByFormula, bin_least, step_least, step_exponent, capped};
+ghost use Rattle.ac_expo.specs.Steps.{step_of};
+ghost use Rattle.ac_expo.specs.Greatest.{IsGreatest, IsByFormula, bin_least, step_least, capped};
 
 use crate::smooth::smooth;
 use crate::steps::{coupling, groups, step};

@@ -1,8 +1,7 @@
 //! The raw exponents of a frame.
-ghost use Rattle.std.specs.Prelude.{◌≡◌, ℕ, ◌<◌, ◌≤◌, List, [], length, slice_index, slice_index_or};
-ghost use Rattle.ac_base.specs.Shape.{coded_of};
+ghost use Rattle.std.specs.Prelude.{◌≡◌, ℕ, ◌≤◌, slice_index};
 ghost use Rattle.ac_base.specs.Spans.{IsIn};
-ghost use Rattle.ac_expo.specs.Raw.{raw_of, channels, AreRawInRow, AreRawInBlocks, AreRaw, AreSmallInRow, AreSmallInBlocks, AreSmall, AreSilentElsewhere, KeepsOutside, KeepsElsewhere};
+ghost use Rattle.ac_expo.specs.Raw.{AreRawInRow, AreRawInBlocks, AreRaw, AreSmallInRow, AreSmallInBlocks, AreSmall, AreSilentElsewhere, KeepsOutside, KeepsElsewhere};
 
 use crate::raw::raw_exponent;
 use ac_base::{Coefs, Shape, Span};

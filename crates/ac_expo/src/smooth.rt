@@ -1,5 +1,5 @@
 //! Lists whose neighbours differ by at most 2.
-ghost use Rattle.std.specs.Prelude.{◌≡◌, ℕ, ◌+◌, ◌-◌, ◌*◌, ◌<◌, ◌≤◌, length, slice_index};
+ghost use Rattle.std.specs.Prelude.{◌≡◌, ℕ, ◌+◌, ◌-◌, ◌<◌, ◌≤◌, length, slice_index};
 ghost use Rattle.ac_expo.specs.Least.{spread};
 
 /// Lowers each step as little as its neighbours ask, in a pass up and a pass down.

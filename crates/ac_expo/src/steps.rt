@@ -1,9 +1,9 @@
 //! Steps and groups of exponents.
-ghost use Rattle.std.specs.Prelude.{◌≡◌, ℕ, ◌+◌, ◌-◌, ◌*◌, ◌<◌, ◌≤◌};
+ghost use Rattle.std.specs.Prelude.{◌≡◌, ◌+◌, ◌-◌, ◌≤◌};
 ghost use Rattle.ac_base.specs.Spans.{IsIn, IsKind, is_coupling};
 ghost use Rattle.ac_base.specs.Shape.{IsSpan};
-ghost use Rattle.ac_base.specs.Spans.{width, groups_of};
-ghost use Rattle.ac_expo.specs.Steps.{ahead, step_of, bin_of, last_step};
+ghost use Rattle.ac_base.specs.Spans.{groups_of};
+ghost use Rattle.ac_expo.specs.Steps.{step_of, last_step};
 
 use ac_base::{Lead, Span};
 

@@ -1,5 +1,5 @@
 //! Values that are there in some blocks only, one alone or by channel and by band.
-ghost use Rattle.std.specs.Prelude.{◌≡◌, ℕ, ◌&&◌, nat_lt, nat_le};
+ghost use Rattle.std.specs.Prelude.{◌≡◌, ◌&&◌, nat_lt, nat_le};
 ghost use Rattle.ac_coordinates.specs.declared.Coordinate.{Coordinate};
 ghost use Rattle.ac_rows.specs.Filled.{listed};
 ghost use Rattle.ac_sent.specs.Fields.{when};

@@ -1,7 +1,6 @@
 //! A block of a frame.
-ghost use Rattle.std.specs.Prelude.{◌≡◌, ◌<◌, ◌==◌, false, None, Some, is_some, replicate};
+ghost use Rattle.std.specs.Prelude.{◌≡◌, ◌<◌, ◌==◌, false, None, is_some, replicate};
 ghost use Rattle.ac_fields.specs.Asked.{HasFields};
-ghost use Rattle.ac_rows.specs.Groups.{rest_of, start_of};
 ghost use Rattle.ac_sent.specs.Fields.{sent_fields};
 
 use crate::allocation::allocation;

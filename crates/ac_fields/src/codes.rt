@@ -1,5 +1,5 @@
 //! Rematrixing, the exponent strategies and the bandwidths.
-ghost use Rattle.std.specs.Prelude.{◌≡◌, ◌<◌, ◌≤◌, ◌&&◌, ℕ, None, is_some, nat_lt, not, if◌then◌else◌};
+ghost use Rattle.std.specs.Prelude.{◌≡◌, ◌<◌, ◌≤◌, ◌&&◌, None, is_some, nat_lt, not, if◌then◌else◌};
 ghost use Rattle.ac_base.specs.Shape.{full_of, is_stereo, rematrix_bands};
 ghost use Rattle.ac_rows.specs.Filled.{listed};
 ghost use Rattle.ac_rows.specs.Groups.{codes_of};

@@ -1,5 +1,5 @@
 //! The exponents of all channels.
-ghost use Rattle.std.specs.Prelude.{◌≡◌, ◌<◌, ◌≤◌, ◌&&◌, ℕ, None, is_some, nat_lt, if◌then◌else◌};
+ghost use Rattle.std.specs.Prelude.{◌≡◌, ◌<◌, ◌&&◌, None, is_some, nat_lt, if◌then◌else◌};
 ghost use Rattle.ac_base.specs.Shape.{full_of};
 ghost use Rattle.ac_expo.specs.Raw.{channels};
 ghost use Rattle.ac_fields.specs.Asked.{HasFields};

@@ -1,5 +1,5 @@
 //! The coupling coordinates.
-ghost use Rattle.std.specs.Prelude.{◌≡◌, ◌&&◌, ◌<◌, ℕ, None, nat_lt};
+ghost use Rattle.std.specs.Prelude.{◌≡◌, ◌&&◌, ◌<◌, None, nat_lt};
 ghost use Rattle.ac_base.specs.Shape.{full_of, subbands};
 ghost use Rattle.ac_rows.specs.Filled.{listed};
 ghost use Rattle.ac_rows.specs.Groups.{shared_of};

@@ -1,5 +1,5 @@
 // Frames of silence, whose bytes are those of an encoder of strings of bits in Python, and frames that are drawn by chance.
-ghost use Rattle.std.specs.Prelude.{◌<◌, ◌≤◌};
+ghost use Rattle.std.specs.Prelude.{◌<◌};
 
 use crate::{FrameCodes, FrameFault, Quantised, padding_law, plain_law, read};
 use ac_base::{Coefs, Shape};

@@ -1,4 +1,4 @@
-ghost use Rattle.std.specs.Prelude.{◌≡◌, ◌≤◌, ◌++◌, length, vec_capacity, Some, OnOk, OnErr, IsTrue, IsErr, false};
+ghost use Rattle.std.specs.Prelude.{◌≡◌, ◌≤◌, length, vec_capacity, Some, OnOk, OnErr, IsTrue, IsErr, false};
 ghost use Rattle.ac_io.specs.Outside.{Rose, Adds, AddsFront};
 ghost use Rattle.ac_io.specs.Memory.{is_named, new_outgoing, TookPiece, after_failed_write, IsStarved};
 

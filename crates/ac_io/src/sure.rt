@@ -1,5 +1,5 @@
-ghost use Rattle.std.specs.Prelude.{◌≡◌, ℕ, ◌<◌, ◌≤◌, ◌++◌, length, take, drop, min, Some, None, IfOk, OnOk, OnErr, IsOk};
-ghost use Rattle.ac_io.specs.Outside.{Rose, ReadsFront, IsAtEnd, LosesNothing, Adds, AddsFront};
+ghost use Rattle.std.specs.Prelude.{◌≡◌, ℕ, ◌<◌, ◌≤◌, ◌++◌, length, take, drop, min, Some, None, IfOk, IsOk};
+ghost use Rattle.ac_io.specs.Outside.{ReadsFront, IsAtEnd};
 
 use crate::memory::copy_front;
 use crate::outside::{Failed, Sink, Source};

@@ -1,5 +1,5 @@
 //! Reading up to a limit on all bytes that are taken.
-ghost use Rattle.std.specs.Prelude.{◌≡◌, ℕ, ◌+◌, ◌-◌, ◌≤◌, ◌<◌, List, length, Option, Some, IfOk, MatchResult, IsErrOf};
+ghost use Rattle.std.specs.Prelude.{◌≡◌, ℕ, ◌+◌, ◌-◌, ◌≤◌, ◌<◌, List, length, Some, IfOk, MatchResult, IsErrOf};
 ghost use Rattle.ac_io.specs.Outside.{Rose};
 ghost use Rattle.ac_io.specs.Within.{IsAt, TakesAtMost, ReadsOn, StopsAt, ReadsAll, IsLonger};
 ghost use Rattle.ac_io.specs.declared.within.Unread.TheVariants as unread;

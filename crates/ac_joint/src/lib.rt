@@ -1,7 +1,7 @@
 //! Joint coding: coupling and rematrixing.
 #![tactic(auto)]
 
-ghost use Rattle.std.specs.Prelude.{◌≡◌, ◌<◌, ◌≤◌, ◌^◌, ℕ, [], length, slice_index_or, unsigned_abs};
+ghost use Rattle.std.specs.Prelude.{◌≡◌, ◌<◌, ◌≤◌, ℕ, [], length, slice_index_or};
 ghost use Rattle.ac_base.specs.Spans.{IsIn};
 ghost use Rattle.ac_expo.specs.Raw.{AreSmall, channel_span, channels};
 ghost use Rattle.ac_energy.specs.Coefficients.{entry};

@@ -1,8 +1,8 @@
 //! The steps and lists of the six blocks.
-ghost use Rattle.std.specs.Prelude.{◌≡◌, ℕ, ◌+◌, ◌-◌, ◌<◌, ◌≤◌, List, [], length, slice_index_or};
+ghost use Rattle.std.specs.Prelude.{ℕ, ◌+◌, ◌-◌, ◌≤◌, List};
 ghost use Rattle.ac_base.specs.Shape.{IsSpan};
 ghost use Rattle.ac_base.specs.Spans.{IsKind};
-ghost use Rattle.ac_levels.specs.Reach.{AreBlockSteps, ArePairs};
+ghost use Rattle.ac_levels.specs.Reach.{AreBlockSteps};
 ghost use Rattle.ac_levels.specs.Rows.{AreBlocks};
 
 use crate::steps::{Scratch, fill_block, pairs, place_block, window};

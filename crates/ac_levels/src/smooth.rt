@@ -1,5 +1,5 @@
 //! Steps whose neighbours differ by at most 2, as levels.
-ghost use Rattle.std.specs.Prelude.{◌≡◌, ℕ, ◌+◌, ◌-◌, ◌*◌, ◌<◌, ◌≤◌, max, slice_index};
+ghost use Rattle.std.specs.Prelude.{◌≡◌, ℕ, ◌+◌, ◌-◌, ◌*◌, ◌≤◌, max, slice_index};
 ghost use Rattle.ac_levels.specs.Reach.{IsPlace, IsZeroOutside, IsSpread, IsPass};
 
 /// A level raised to its two neighbours less what they fall on the way.

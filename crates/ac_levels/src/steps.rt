@@ -2,7 +2,7 @@
 ghost use Rattle.std.specs.Prelude.{◌≡◌, ℕ, ◌+◌, ◌-◌, ◌*◌, ◌/◌, ◌<◌, ◌≤◌, ◌⊎◌, List, max, slice_index};
 ghost use Rattle.ac_base.specs.Shape.{IsSpan};
 ghost use Rattle.ac_expo.specs.Greatest.{capped};
-ghost use Rattle.ac_base.specs.Spans.{IsIn, IsKind, is_coupling};
+ghost use Rattle.ac_base.specs.Spans.{IsKind, is_coupling};
 ghost use Rattle.ac_base.specs.Spans.{width};
 ghost use Rattle.ac_expo.specs.Steps.{ahead, last_step};
 ghost use Rattle.ac_levels.specs.Reach.{AreSteps, ArePairs, IsBlank, IsZeroOutside};

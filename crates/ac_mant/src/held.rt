@@ -1,5 +1,5 @@
 //! The codes of groups whose first code was read (A/52 7.3.5).
-ghost use Rattle.std.specs.Prelude.{◌≡◌, ◌≤◌, ◌<◌, ◌*◌};
+ghost use Rattle.std.specs.Prelude.{◌≡◌, ◌≤◌, ◌*◌};
 ghost use Rattle.ac_mant.specs.Unpacking.{nothing, of_three, of_two, opened, ahead_in, codes_in};
 ghost use Rattle.std.specs.Prelude.{length};
 

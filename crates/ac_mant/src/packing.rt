@@ -1,5 +1,5 @@
 //! The mantissas of a block as bits (A/52 7.3.5).
-ghost use Rattle.std.specs.Prelude.{◌≡◌, ◌⊎◌, ◌<◌, ◌≤◌, ◌+◌, ◌-◌, ◌*◌, ◌^◌, ◌==◌, ℕ, if◌then◌else◌, List, [], ◌∷◌, ◌++◌, length, drop, slice_index, slice_index_or, map};
+ghost use Rattle.std.specs.Prelude.{◌≡◌, ◌<◌, ◌≤◌, ◌+◌, ◌-◌, ◌*◌, ◌==◌, [], ◌∷◌, ◌++◌, length, drop, slice_index};
 ghost use Rattle.ac_mant.specs.Quantiser.{code_limit};
 ghost use Rattle.ac_base.specs.Counts.{tally_of, exact_of};
 ghost use Rattle.ac_bits.specs.Bits.{frame_bits, Appends};

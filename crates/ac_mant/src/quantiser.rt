@@ -1,7 +1,7 @@
 //! The quantiser and its inverse (A/52 7.3.3, 7.3.4).
-ghost use Rattle.std.specs.Prelude.{◌≡◌, ◌<◌, ◌≤◌, ◌+◌, ◌-◌, ◌*◌, ◌^◌, ◌⊎◌, ℕ, ℤ, pos, negsuc, ◌+ℤ◌, ◌-ℤ◌, ◌*ℤ◌, ◌≤ℤ◌, ◌<ℤ◌, neg_ℤ, unsigned_abs, if◌then◌else◌};
+ghost use Rattle.std.specs.Prelude.{◌≡◌, ◌<◌, ◌≤◌, ◌+◌, ◌-◌, ◌*◌, ◌^◌, ℤ, pos, ◌+ℤ◌, ◌*ℤ◌, ◌≤ℤ◌, ◌<ℤ◌, unsigned_abs};
 ghost use Rattle.ac_base.specs.Floor.{floor_div};
-ghost use Rattle.ac_mant.specs.Quantiser.{levels, width, code_limit, IsCode, normalised, level_of, nearest, complement, code_of, signed, middle, multiple, value_of};
+ghost use Rattle.ac_mant.specs.Quantiser.{levels, width, IsCode, normalised, level_of, nearest, complement, code_of, signed, middle, multiple, value_of};
 
 /// The levels of the symmetric quantisers, by pointer (A/52 Table 7.17).
 const LEVELS: [u8; 6] = [1, 3, 5, 7, 11, 15];

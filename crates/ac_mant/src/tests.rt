@@ -1,6 +1,6 @@
-ghost use Rattle.std.specs.Prelude.{◌≡◌, ◌+◌, ◌-◌, ◌*◌, ◌<◌, ◌≤◌, ◌^◌, ℕ, true, IsTrue, unsigned_abs, length, All, IfSome};
+ghost use Rattle.std.specs.Prelude.{◌≡◌, ◌-◌, ◌*◌, ◌<◌, ◌≤◌, ◌^◌, true, unsigned_abs, IfSome};
 ghost use Rattle.ac_base.specs.Counts.{tally_of, exact_of};
-ghost use Rattle.ac_mant.specs.Counts.{AreWithin, tally};
+ghost use Rattle.ac_mant.specs.Counts.{AreWithin};
 ghost use Rattle.ac_mant.specs.Groups.{AreCoded, IsCoded, pointers};
 
 use crate::ahead::own_limit;

@@ -1,6 +1,5 @@
 //! The codes of a block's mantissas from their bits (A/52 7.3.5).
-ghost use Rattle.std.specs.Prelude.{◌≡◌, ◌⊎◌, ◌<◌, ◌≤◌, ◌+◌, ◌-◌, ◌*◌, ◌^◌, ◌==◌, ℕ, if◌then◌else◌, List, Bool, [], ◌∷◌, ◌++◌, length, take, drop, slice_index, All, Result, Ok, Err, OnOk, IfErr};
-ghost use Rattle.ac_bits.specs.Bits.{bits};
+ghost use Rattle.std.specs.Prelude.{◌≡◌, ◌<◌, ◌≤◌, ◌+◌, ◌-◌, ℕ, List, Bool, ◌++◌, length, take, All, Result, Ok, Err, OnOk, IfErr};
 ghost use Rattle.ac_mant.specs.Groups.{closed, coded, pairs, AreCoded, Fill, IsFill, first_width, first_limit, number_width, number_limit, spelled, Refuses};
 ghost use Rattle.ac_mant.specs.Unpacking.{nothing, ahead_in, codes_in, read_number, read_from, NumberGives, CodesGive};
 ghost use Rattle.ac_mant.specs.declared.coded.MantFault.{MantFault};

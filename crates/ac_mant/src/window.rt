@@ -1,5 +1,5 @@
 //! Bits of a source that are taken 32 at a time.
-ghost use Rattle.std.specs.Prelude.{◌≡◌, ℕ, ◌+◌, ◌-◌, ◌*◌, ◌%◌, ◌/◌, ◌^◌, ◌<◌, ◌≤◌, List, [], ◌++◌, length, drop, Bool, IfOk, OnErr};
+ghost use Rattle.std.specs.Prelude.{◌≡◌, ◌+◌, ◌-◌, ◌%◌, ◌/◌, ◌^◌, ◌<◌, ◌≤◌, List, ◌++◌, length, drop, Bool, IfOk, OnErr};
 ghost use Rattle.ac_bits.specs.Bits.{bits};
 
 use ac_bits::{BitSource, OutOfBits};

@@ -1,5 +1,5 @@
 //! Steps of all rows from a band to the next (A/52 7.2.2.4, 7.2.2.5). Leaks and excitations stand raised by 4096.
-ghost use Rattle.std.specs.Prelude.{◌≡◌, ◌≤◌, ◌<◌, ◌+◌, ◌*◌, ◌-◌, ℕ, slice_index, if◌then◌else◌, nat_le};
+ghost use Rattle.std.specs.Prelude.{◌≡◌, ◌≤◌, ◌<◌, ◌+◌, ◌-◌, ℕ, slice_index, if◌then◌else◌, nat_le};
 ghost use Rattle.ac_alloc.specs.Excitation.{lowcomp};
 ghost use Rattle.ac_masks.specs.Adding.{most_sum};
 ghost use Rattle.ac_masks.specs.Steps.{leak_step, excite_step, base_step};

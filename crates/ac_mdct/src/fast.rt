@@ -1,7 +1,7 @@
 //! Both transforms: windowed and folded, in the order of the logarithms, by the sums of `ac_cosine_sums`.
-ghost use Rattle.std.specs.Prelude.{◌≡◌, ◌<◌, ◌≤◌, ◌^◌, ◌+◌, ◌-◌, ◌++◌, ℕ, pos, neg_ℤ, unsigned_abs, slice_index_or};
+ghost use Rattle.std.specs.Prelude.{◌≡◌, ◌<◌, ◌≤◌, ◌^◌, ◌+◌, ◌-◌, neg_ℤ, unsigned_abs};
 ghost use Rattle.ac_base.specs.Sigma.{Within};
-ghost use Rattle.ac_mdct.specs.Forward.{windowed, forward_sum, IsForward};
+ghost use Rattle.ac_mdct.specs.Forward.{windowed, IsForward};
 ghost use Rattle.ac_mdct.specs.Inverse.{inverse_sum, part, IsSound, IsDelay};
 ghost use Rattle.ac_mdct.specs.Place.{place, unfolded};
 ghost use Rattle.ac_mdct.specs.Overlap.{IsSoundIn, IsDelayIn, StaysOut};

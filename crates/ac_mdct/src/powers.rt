@@ -1,6 +1,6 @@
 //! Odd phases as powers of five. Modulo 2048 each odd number is a power of five, or the opposite of one, so a sum over odd
 //! phases times an odd factor is a sum over neighbours in the list of the cosines of the powers.
-ghost use Rattle.std.specs.Prelude.{◌≡◌, ◌<◌, ◌≤◌, ◌^◌, ◌+◌, ◌*◌, ◌%◌, ◌*ℤ◌, ◌⊎◌, ℕ, ℤ, pos, neg_ℤ, unsigned_abs, slice_index, slice_index_or};
+ghost use Rattle.std.specs.Prelude.{◌≡◌, ◌<◌, ◌≤◌, ◌^◌, ◌+◌, ◌*◌, ◌%◌, ◌*ℤ◌, ℤ, pos, neg_ℤ, unsigned_abs, slice_index_or};
 ghost use Rattle.ac_base.specs.Sigma.{Within, sigma};
 ghost use Rattle.ac_base.specs.Cosine.{cosine_at};
 ghost use Rattle.ac_mdct.specs.Powers.{log_of, forward_pick, inverse_pick, turned_by, forward_spun, inverse_spun};

@@ -1,5 +1,5 @@
 //! Each rounding of the transforms, on plain numbers (this project's profile for the real numbers of A/52 7.9.4.1, 8.2.3).
-ghost use Rattle.std.specs.Prelude.{◌≡◌, ◌<◌, ◌≤◌, ◌^◌, ◌+◌, ◌*◌, ◌+ℤ◌, ◌*ℤ◌, ℕ, ℤ, pos, neg_ℤ, unsigned_abs};
+ghost use Rattle.std.specs.Prelude.{◌≡◌, ◌<◌, ◌≤◌, ◌^◌, ◌+◌, ◌*◌, ◌+ℤ◌, ◌*ℤ◌, ℤ, pos, neg_ℤ, unsigned_abs};
 ghost use Rattle.ac_base.specs.Floor.{floor_div};
 ghost use Rattle.ac_mdct.specs.Forward.{rounded, coefficient};
 ghost use Rattle.ac_mdct.specs.Inverse.{part_of, sample_of};

@@ -1,5 +1,5 @@
 //! The 512 places of a block under the window.
-ghost use Rattle.std.specs.Prelude.{◌≡◌, ◌<◌, ◌≤◌, ◌^◌, ◌-◌, ◌++◌, ℕ, pos, unsigned_abs, slice_index_or};
+ghost use Rattle.std.specs.Prelude.{◌≡◌, ◌<◌, ◌^◌, ◌-◌, ◌++◌, pos, slice_index_or};
 ghost use Rattle.ac_base.specs.Sigma.{Within};
 ghost use Rattle.ac_mdct.specs.Forward.{windowed};
 ghost use Rattle.ac_base.specs.Sigma.{Lists};

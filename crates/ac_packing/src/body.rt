@@ -1,10 +1,10 @@
 //! The bits of a frame but its CRC words (A/52 5.3).
-ghost use Rattle.std.specs.Prelude.{◌≡◌, ◌<◌, ◌≤◌, ◌+◌, ◌*◌, ◌==◌, ◌++◌, ◌∷◌, ℕ, Bool, false, List, [], length, take, drop, replicate};
+ghost use Rattle.std.specs.Prelude.{◌≡◌, ◌<◌, ◌≤◌, ◌+◌, ◌*◌, ◌++◌, ◌∷◌, false, [], length, take, replicate};
 ghost use Rattle.ac_bits.specs.Bits.{bits, bits_of, Appends};
 ghost use Rattle.ac_rows.specs.Filled.{listed};
 ghost use Rattle.ac_record.specs.Records.{block_spelled, blocks_spelled, record_spelled};
 ghost use Rattle.ac_sent.specs.Asked.{IsQuantised, IsSizeCode};
-ghost use Rattle.ac_sent.specs.Fields.{sent_head, sent_block, parts_at, skip_at};
+ghost use Rattle.ac_sent.specs.Fields.{sent_head, sent_block, parts_at};
 ghost use Rattle.ac_sent.specs.Packed.{sent_part, sent_record};
 ghost use Rattle.ac_sent.specs.Padding.{to_skip};
 ghost use Rattle.ac_packing.specs.Listing.{ArePointers};

@@ -1,5 +1,5 @@
 //! The frame, whole.
-ghost use Rattle.std.specs.Prelude.{◌≡◌, ◌+◌, ◌*◌, ◌<◌, ◌≤◌, ◌++◌, length, take, drop};
+ghost use Rattle.std.specs.Prelude.{◌≡◌, ◌+◌, ◌*◌, ◌≤◌, ◌++◌, length, take, drop};
 ghost use Rattle.ac_bits.specs.Bits.{bits, bits_of, frame_bytes};
 ghost use Rattle.ac_crc.specs.Remainder.{IsRemainder};
 ghost use Rattle.ac_sent.specs.Asked.{IsQuantised, IsSizeCode};

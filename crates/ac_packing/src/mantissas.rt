@@ -1,11 +1,9 @@
 //! The mantissas of a block in their order (A/52 5.3.3).
-ghost use Rattle.std.specs.Prelude.{◌≡◌, ◌<◌, ◌≤◌, ◌+◌, ◌*◌, ◌-◌, ◌++◌, ℕ, List, [], ◌∷◌, take, length, slice_index, slice_index_or};
+ghost use Rattle.std.specs.Prelude.{◌≡◌, ◌<◌, ◌≤◌, ◌+◌, ◌-◌, ◌++◌, take, slice_index};
 ghost use Rattle.ac_expo.specs.Raw.{channels, channel_span};
 ghost use Rattle.ac_mant.specs.declared.coded.Coded.{Coded};
 ghost use Rattle.ac_mant.specs.Groups.{coded};
 ghost use Rattle.ac_record.specs.Order.{over_bins, over_channels};
-ghost use Rattle.ac_record.specs.Readings.{cell};
-ghost use Rattle.ac_sent.specs.Fields.{pointer_at};
 ghost use Rattle.ac_sent.specs.Packed.{sent_mantissas};
 ghost use Rattle.ac_packing.specs.Listing.{ArePointers, mantissa_at, coupling_of, later_of, low_of};
 

@@ -1,13 +1,13 @@
 //! The bits of a frame's blocks, by which its padding is shared out.
-ghost use Rattle.std.specs.Prelude.{◌≡◌, ◌<◌, ◌≤◌, ◌+◌, ◌*◌, ◌-◌, ◌^◌, ℕ, length};
+ghost use Rattle.std.specs.Prelude.{◌≡◌, ◌<◌, ◌≤◌, ◌+◌, ◌*◌, ◌-◌, ◌^◌, length};
 ghost use Rattle.ac_base.specs.Counts.{tally_of, exact_of};
-ghost use Rattle.ac_base.specs.Fit.{list_bits, exponent_bits, exponents_in, mantissas_in};
+ghost use Rattle.ac_base.specs.Fit.{list_bits, exponent_bits, exponents_in};
 ghost use Rattle.ac_base.specs.Shape.{IsSpan};
 ghost use Rattle.ac_base.specs.Spans.{greatest_kind};
 ghost use Rattle.ac_expo.specs.Raw.{channels, channel_span};
 ghost use Rattle.ac_mant.specs.Groups.{pointers, AreCoded};
 ghost use Rattle.ac_sent.specs.Asked.{IsQuantised};
-ghost use Rattle.ac_sent.specs.Fields.{pointer_at, parts_at};
+ghost use Rattle.ac_sent.specs.Fields.{parts_at};
 ghost use Rattle.ac_packing.specs.Listing.{ArePointers, exponents_of, mantissas_of};
 
 use crate::mantissas::{MOST, list_block};

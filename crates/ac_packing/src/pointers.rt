@@ -1,8 +1,7 @@
 //! The bit allocation pointers of a frame (A/52 7.2.2).
-ghost use Rattle.std.specs.Prelude.{◌≡◌, ◌<◌, ◌≤◌, ◌-◌, ◌≢◌, ◌⊎◌, ℕ, [], length, slice_index, slice_index_or};
+ghost use Rattle.std.specs.Prelude.{◌<◌, ◌≤◌, ◌-◌, ℕ, [], slice_index_or};
 ghost use Rattle.ac_expo.specs.Raw.{channels};
 ghost use Rattle.ac_sent.specs.Asked.{IsQuantised};
-ghost use Rattle.ac_sent.specs.Fields.{code_at};
 ghost use Rattle.ac_packing.specs.Listing.{ArePointersIn, ArePointersOf, ArePointers};
 
 use ac_alloc::{Mask, Params, baps};

@@ -1,5 +1,5 @@
 // Plans of silence, and of frames by a program in another language.
-ghost use Rattle.std.specs.Prelude.{◌≡◌, ℕ, List, IsTrue};
+ghost use Rattle.std.specs.Prelude.{ℕ, List, IsTrue};
 ghost use Rattle.ac_cost.specs.Parts.{FitsAt, cheapest_assign};
 ghost use Rattle.ac_cost.specs.Runs.{TakesLow};
 

@@ -1,8 +1,8 @@
 //! The coded channels of a filled block, and the parameters of their bit allocation (A/52 5.4.3, 7.2.2).
-ghost use Rattle.std.specs.Prelude.{◌≡◌, true, ◌<◌, ◌≤◌, ◌+◌, ◌*◌, ◌&&◌, ◌==◌, ℕ, nat_lt};
+ghost use Rattle.std.specs.Prelude.{◌≡◌, true, ◌<◌, ◌≤◌, ◌+◌, ◌*◌, ◌&&◌, ◌==◌};
 ghost use Rattle.ac_base.specs.Shape.{full_of, count_of};
 ghost use Rattle.ac_base.specs.Sigma.{sum_below};
-ghost use Rattle.ac_rows.specs.Filled.{holds, number, entry};
+ghost use Rattle.ac_rows.specs.Filled.{holds, number};
 ghost use Rattle.ac_record.specs.Channels.{coded_in};
 ghost use Rattle.ac_reading.specs.Kept.{HaveSameCurves, HaveSameLeaks};
 ghost use Rattle.ac_record.specs.Held.{fine_of, gain_of, offset_of, is_silent, params_in};

@@ -1,8 +1,7 @@
 //! The exponents of a block (A/52 7.1.3).
-ghost use Rattle.std.specs.Prelude.{◌≡◌, true, ℕ, ◌<◌, ◌≤◌, ◌+◌, ◌-◌, ◌*◌, List, [], Option, None, length, slice_index, slice_index_or};
+ghost use Rattle.std.specs.Prelude.{◌≡◌, true, ℕ, ◌<◌, ◌≤◌, ◌+◌, ◌-◌, ◌*◌, [], Option, None, length, slice_index, slice_index_or};
 ghost use Rattle.std.specs.Option.{ForSome};
 ghost use Rattle.ac_base.specs.Spans.{IsIn, IsKind, is_coupling};
-ghost use Rattle.ac_base.specs.Shape.{IsSpan};
 ghost use Rattle.ac_expo.specs.Steps.{step_of};
 ghost use Rattle.ac_expo.specs.Groups.{reference, mapped_of, sum_to, spelled_exponent};
 ghost use Rattle.ac_alloc.specs.Integration.{AreExponents};

@@ -1,6 +1,6 @@
 //! What is looked at before the fields of a frame: its size, and its CRC words.
-ghost use Rattle.std.specs.Prelude.{◌≡◌, ◌≢◌, ◌≤◌, ◌*◌, length, take, IfOk, IfErr, OnOk};
-ghost use Rattle.ac_record.specs.Faults.{IsThere, FrontIs, AllIs, words_at, IsFault};
+ghost use Rattle.std.specs.Prelude.{◌≡◌, ◌≤◌, ◌*◌, length, IfOk, IfErr, OnOk};
+ghost use Rattle.ac_record.specs.Faults.{IsFault};
 ghost use Rattle.ac_reading.specs.Framed.{IsSized, IsFramed, IsWhole, IsTorn};
 
 use crate::sizing::size;

@@ -7,7 +7,7 @@ ghost use Rattle.ac_rows.specs.BlockRows.{AreLawful};
 ghost use Rattle.ac_record.specs.Empty.{empty_codes};
 ghost use Rattle.ac_record.specs.declared.codes.FrameFault.{FrameFault};
 ghost use Rattle.ac_record.specs.Readings.{IsReading};
-ghost use Rattle.ac_record.specs.Faults.{BlockRefuses, BlocksRefuse, FieldsRefuse, IsThere, FrontIs, AllIs, words_at, room_at, IsFault};
+ghost use Rattle.ac_record.specs.Faults.{BlockRefuses, BlocksRefuse, FieldsRefuse, IsFault};
 ghost use Rattle.ac_reading.specs.Begun.{IsOpen, Keeps, IsRead, IsBegun};
 ghost use Rattle.ac_reading.specs.Framed.{AreFields, Reading};
 ghost use Rattle.ac_reading.specs.Kept.{KeepsExponents, KeepsPointers};

@@ -1,6 +1,6 @@
 //! The size of a frame from its first six bytes (A/52 5.3.1, 5.4.1).
-ghost use Rattle.std.specs.Prelude.{◌≡◌, ◌≤◌, ◌*◌, MatchResult, None, Some};
-ghost use Rattle.ac_record.specs.Faults.{sync_at, rate_at, code_at, version_at, size_refusal, words_at};
+ghost use Rattle.std.specs.Prelude.{◌≡◌, ◌*◌, MatchResult, None, Some};
+ghost use Rattle.ac_record.specs.Faults.{sync_at, size_refusal, words_at};
 
 use ac_base::code_words;
 use ac_codec::{Refused, Row};

@@ -1,5 +1,4 @@
 //! What a reader gives of a frame, and why it refuses one.
-ghost use Rattle.std.specs.Prelude.{◌≡◌};
 
 use ac_codec::{Refused, Row};
 use ac_rows::{Block, Head};

@@ -1,5 +1,5 @@
 //! The bands of rematrixing.
-ghost use Rattle.std.specs.Prelude.{◌≡◌, ◌<◌, ◌≤◌, ℕ, [], true, slice_index_or};
+ghost use Rattle.std.specs.Prelude.{◌≡◌, ◌≤◌, [], slice_index_or};
 ghost use Rattle.ac_energy.specs.Coefficients.{cell_of};
 ghost use Rattle.ac_energy.specs.Energy.{AreSmallIn};
 ghost use Rattle.ac_rematrix.specs.Halves.{IsBandDone};

@@ -1,5 +1,5 @@
 //! The energies of a band: those of both channels, of their sum and of their difference, in one pass.
-ghost use Rattle.std.specs.Prelude.{◌≡◌, ◌<◌, ◌≤◌, ◌^◌, ◌+◌, ◌-◌, ◌*◌, ◌+ℤ◌, neg_ℤ, pos, ℕ, slice_index_or, min, nat_lt, unsigned_abs};
+ghost use Rattle.std.specs.Prelude.{◌≡◌, ◌<◌, ◌≤◌, ◌^◌, ◌+◌, ◌-◌, ◌*◌, ◌+ℤ◌, neg_ℤ, pos, ℕ, slice_index_or, min, unsigned_abs};
 ghost use Rattle.ac_energy.specs.Coefficients.{cell_of};
 ghost use Rattle.ac_energy.specs.Energy.{square, AreSmallIn};
 ghost use Rattle.ac_rematrix.specs.Energies.{with_row, blocks_energies, AreAtMost, AreSmallBins};

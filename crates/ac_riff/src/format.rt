@@ -1,6 +1,6 @@
 //! The fields of a `fmt ` chunk, and the tests that they must pass.
-ghost use Rattle.std.specs.Prelude.{◌≡◌, ◌≤◌, ◌<◌, ◌+◌, Option, Some, None, IfSome, true, length};
-ghost use Rattle.ac_riff.specs.Format.{number_at, fields_of, IsOfField, is_extensible, common_tests, extension_tests, first_failing, fault_of, layout_of, fscod_of};
+ghost use Rattle.std.specs.Prelude.{◌≡◌, ◌≤◌, ◌<◌, ◌+◌, Option, Some, None, IfSome, true};
+ghost use Rattle.ac_riff.specs.Format.{number_at, fields_of, IsOfField, is_extensible, common_tests, extension_tests, first_failing, fault_of, layout_of};
 
 use crate::fault::{Field, WavKind};
 use crate::layout;

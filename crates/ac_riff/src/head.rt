@@ -1,11 +1,11 @@
 //! The head of a WAV.
-ghost use Rattle.std.specs.Prelude.{◌≡◌, ◌≢◌, ℕ, ◌+◌, ◌≤◌, ◌<◌, ◌⊎◌, List, length, drop, codes, Option, Some, None, take, IfOk, IfErr, OnOk, MatchOption, MatchResult, IsErrOf, Err};
+ghost use Rattle.std.specs.Prelude.{◌≡◌, ◌≢◌, ℕ, ◌+◌, ◌≤◌, ◌<◌, List, drop, codes, Option, Some, None, take, IfOk, IfErr, OnOk, MatchOption, MatchResult, IsErrOf, Err};
 ghost use Rattle.ac_io.specs.Outside.{Rose};
-ghost use Rattle.ac_riff.specs.Format.{fields_of, fault_of, fscod_of, IsFine};
-ghost use Rattle.ac_riff.specs.Form.{name_of, size_of, padded, whole_length, IsRiff, IsOpen, IsFormatted, IsDataAt, IsHead, head_of, data_size, IsOfProfile};
+ghost use Rattle.ac_riff.specs.Format.{fault_of, fscod_of, IsFine};
+ghost use Rattle.ac_riff.specs.Form.{name_of, size_of, padded, whole_length, IsRiff, IsOpen, IsFormatted, IsHead, head_of, data_size, IsOfProfile};
 ghost use Rattle.ac_riff.specs.Refusal.{Reaches, IsNoRiff, IsStopped, RefusalLeaves, HeadRead, ReadsExactly};
-ghost use Rattle.ac_io.specs.Within.{IsAt, ReadsOn, TakesAtMost};
-ghost use Rattle.ac_riff.specs.Pieces.{IsUntaken, ChunkRead, FormatRead, IsFound, DataFound};
+ghost use Rattle.ac_io.specs.Within.{IsAt, TakesAtMost};
+ghost use Rattle.ac_riff.specs.Pieces.{IsUntaken, FormatRead, IsFound, DataFound};
 ghost use Rattle.ac_riff.specs.declared.fault.WavFault.{WavFault};
 
 use crate::chunk::{ChunkHead, Name, read_chunk_head};

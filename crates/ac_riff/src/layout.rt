@@ -1,6 +1,6 @@
 //! Channel masks, and the place in a WAV of each coded channel.
 ghost use Rattle.std.specs.Prelude.{◌≡◌, ◌≤◌, ◌<◌, ℕ, slice_index};
-ghost use Rattle.ac_riff.specs.Layout.{has_lfe, full_mask, mode_of, acmod_of, full_count, channel_count, first_mask, default_mask, order_of, coded_of};
+ghost use Rattle.ac_riff.specs.Layout.{has_lfe, full_mask, mode_of, acmod_of, channel_count, first_mask, default_mask, order_of, coded_of};
 
 /// The bit of a mask that names the LFE channel.
 const LFE: u32 = 8;

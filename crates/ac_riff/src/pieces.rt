@@ -1,6 +1,6 @@
 //! Pieces of the input, up to a limit.
-ghost use Rattle.std.specs.Prelude.{◌≡◌, ℕ, ◌+◌, ◌-◌, ◌≤◌, ◌<◌, ◌↔◌, ◌⊎◌, IsTrue, List, length, Option, Some, IfOk, IfErr, OnOk, OnErr, MatchResult, IfSome, IsErrOf};
-ghost use Rattle.ac_io.specs.Outside.{Rose, ReadsFront};
+ghost use Rattle.std.specs.Prelude.{ℕ, ◌+◌, ◌-◌, ◌≤◌, ◌<◌, List, length, IfOk, IfErr, OnOk, MatchResult, IsErrOf};
+ghost use Rattle.ac_io.specs.Outside.{Rose};
 ghost use Rattle.ac_io.specs.Within.{IsAt, ReadsOn, TakesAtMost};
 ghost use Rattle.ac_riff.specs.Pieces.{IsUnread, UnreadLeaves, IsUntaken};
 ghost use Rattle.ac_riff.specs.Refusal.{RefusalLeaves};

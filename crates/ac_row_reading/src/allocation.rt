@@ -1,5 +1,5 @@
 //! The parameters of the bit allocation, and the last fields before the mantissas.
-ghost use Rattle.std.specs.Prelude.{◌≡◌, ◌<◌, ◌&&◌, ◌||◌, not, Bool, is_some};
+ghost use Rattle.std.specs.Prelude.{◌≡◌, ◌<◌, ◌&&◌, ◌||◌, not, is_some};
 ghost use Rattle.ac_codec.specs.Codec.{Gives};
 ghost use Rattle.ac_rows.specs.BlockRows.{offset_each, parameters, offsets, leaks, allocation, rest};
 

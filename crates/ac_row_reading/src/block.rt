@@ -1,8 +1,7 @@
 //! Reading a block.
-ghost use Rattle.std.specs.Prelude.{◌≡◌, ◌≤◌, ◌++◌, List, Bool, IfOk, IfErr, length};
+ghost use Rattle.std.specs.Prelude.{◌≡◌, ◌≤◌, IfOk, IfErr, length};
 ghost use Rattle.ac_codec.specs.Meaning.{HasRead, ReadsEach, RefusesEach};
 ghost use Rattle.ac_codec.specs.Codec.{Codec, Gives, GivesPart};
-ghost use Rattle.ac_base.specs.Shape.{full_of, is_stereo};
 ghost use Rattle.ac_rows.specs.HeadRows.{head_fields};
 ghost use Rattle.ac_rows.specs.BlockRows.{PairFits, coupling_now, block_rows, block_fields, whole_block, AreLawful};
 

@@ -1,9 +1,7 @@
 //! Rematrixing, exponent strategies and bandwidths.
-ghost use Rattle.std.specs.Prelude.{◌≡◌, ◌<◌, ◌≤◌, ◌&&◌, not, nat_lt, slice_index, Bool};
-ghost use Rattle.std.specs.Option.{ForSome};
+ghost use Rattle.std.specs.Prelude.{◌≡◌, ◌<◌, ◌&&◌, nat_lt};
 ghost use Rattle.ac_codec.specs.Codec.{Gives, slot, field, reused};
 ghost use Rattle.ac_codec.specs.declared.refused.Row.TheVariants.{Chexpstr};
-ghost use Rattle.ac_rows.specs.Filled.{channel_coupled};
 ghost use Rattle.ac_rows.specs.Known.{may_keep_channel};
 ghost use Rattle.ac_rows.specs.BlockRows.{rematrix_each, strategy_each, width_each, has_width, codes};
 

@@ -1,5 +1,5 @@
 //! Reading the exponents of one channel, as a field.
-ghost use Rattle.std.specs.Prelude.{◌≡◌, ◌+◌, ◌*◌, ◌≤◌, Bool, List, Ok, length};
+ghost use Rattle.std.specs.Prelude.{◌≡◌, ◌+◌, ◌*◌, ◌≤◌, Ok, length};
 ghost use Rattle.ac_base.specs.Shape.{IsSpan};
 ghost use Rattle.ac_base.specs.Spans.{IsKind};
 ghost use Rattle.ac_codec.specs.Codec.{Gives};

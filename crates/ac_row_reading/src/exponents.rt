@@ -1,9 +1,9 @@
 //! The exponents of all channels.
-ghost use Rattle.std.specs.Prelude.{◌≡◌, ◌<◌, ◌≤◌, ◌+◌, Bool, true, is_some, nat_lt, slice_index, if◌then◌else◌, None};
+ghost use Rattle.std.specs.Prelude.{◌≡◌, ◌<◌, ◌≤◌, ◌+◌, is_some, nat_lt, slice_index, None};
 ghost use Rattle.ac_base.specs.Shape.{IsSpan, low_span};
 ghost use Rattle.ac_base.specs.Spans.{greatest_kind};
 ghost use Rattle.ac_codec.specs.Codec.{Gives, given, pair, field, any};
-ghost use Rattle.ac_rows.specs.Filled.{channel_coupled, entry, number};
+ghost use Rattle.ac_rows.specs.Filled.{entry, number};
 ghost use Rattle.ac_rows.specs.Spelled.{spelled_row};
 ghost use Rattle.ac_rows.specs.BlockRows.{HasSubbands, CodesFit, sent_span, exponents_each, exponents};
 

@@ -1,5 +1,5 @@
 //! Reading a head.
-ghost use Rattle.std.specs.Prelude.{◌≡◌, ◌≤◌, ◌++◌, List, Bool, IfOk, IfErr};
+ghost use Rattle.std.specs.Prelude.{IfOk, IfErr};
 ghost use Rattle.ac_codec.specs.Meaning.{HasRead, ReadsEach, RefusesEach};
 ghost use Rattle.ac_codec.specs.Codec.{Codec, Gives, GivesPart, field};
 ghost use Rattle.ac_rows.specs.HeadRows.{sync_only, eight_only, no_dual, layout, service, head_fields, whole_head};

@@ -1,5 +1,5 @@
 //! Coupling coordinates and phase flags.
-ghost use Rattle.std.specs.Prelude.{◌≡◌, ◌<◌, Bool};
+ghost use Rattle.std.specs.Prelude.{◌<◌};
 ghost use Rattle.ac_codec.specs.Codec.{Gives};
 ghost use Rattle.ac_rows.specs.Filled.{channel_coupled};
 ghost use Rattle.ac_rows.specs.Known.{may_keep_coordinates};

@@ -1,5 +1,4 @@
 //! The first fields of a block.
-ghost use Rattle.std.specs.Prelude.{◌≡◌};
 ghost use Rattle.ac_codec.specs.Codec.{Gives};
 ghost use Rattle.ac_rows.specs.BlockRows.{clear_each, start};
 

@@ -1,5 +1,5 @@
 //! The coupling strategy.
-ghost use Rattle.std.specs.Prelude.{◌≡◌, ◌≤◌, Bool, false};
+ghost use Rattle.std.specs.Prelude.{◌≡◌, false};
 ghost use Rattle.ac_codec.specs.Codec.{Gives, field, given};
 ghost use Rattle.ac_rows.specs.BlockRows.{coupled_each, joined_each, no_less, sent_subbands, strategy};
 

@@ -1,5 +1,5 @@
 //! Writing the parameters of the bit allocation.
-ghost use Rattle.std.specs.Prelude.{◌≡◌, ◌+◌, ◌≤◌, ◌<◌, ◌^◌, ◌++◌, ℕ, Bool, List, length};
+ghost use Rattle.std.specs.Prelude.{◌≡◌, ◌+◌, ◌≤◌, ◌<◌, ◌^◌, ◌++◌, ℕ, length};
 ghost use Rattle.std.specs.Option.{ForSome};
 ghost use Rattle.ac_bits.specs.Bits.{bits, Appends};
 ghost use Rattle.ac_codec.specs.Codec.{some_spell};

@@ -1,5 +1,5 @@
 //! Writing a block.
-ghost use Rattle.std.specs.Prelude.{◌≡◌, ◌+◌, ◌≤◌, List, Bool, false, length, replicate};
+ghost use Rattle.std.specs.Prelude.{◌≡◌, ◌+◌, ◌≤◌, false, length, replicate};
 ghost use Rattle.ac_bits.specs.Bits.{Appends};
 ghost use Rattle.ac_rows.specs.HeadRows.{head_fields};
 ghost use Rattle.ac_rows.specs.Bits.{block_bits, BlockIsLawful};

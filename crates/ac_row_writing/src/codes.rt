@@ -1,8 +1,8 @@
 //! Writing rematrixing, exponent strategies and bandwidths.
-ghost use Rattle.std.specs.Prelude.{◌≡◌, ◌+◌, ◌≤◌, ◌<◌, ◌^◌, ℕ, Bool, [], List, length, slice_index};
+ghost use Rattle.std.specs.Prelude.{◌≡◌, ◌+◌, ◌≤◌, ◌<◌, ◌^◌, ℕ, [], length, slice_index};
 ghost use Rattle.std.specs.Option.{ForSome};
 ghost use Rattle.ac_bits.specs.Bits.{Appends};
-ghost use Rattle.ac_rows.specs.Filled.{entry, number};
+ghost use Rattle.ac_rows.specs.Filled.{entry};
 ghost use Rattle.ac_rows.specs.Groups.{codes_of};
 ghost use Rattle.ac_rows.specs.BlockRows.{rematrix_each, strategy_each, width_each};
 ghost use Rattle.ac_rows.specs.Bits.{CodesAreLawful, codes_bits, nothing, uncoupled};

@@ -1,5 +1,5 @@
 //! Writing the exponents of one channel, as a field.
-ghost use Rattle.std.specs.Prelude.{◌≡◌, ◌+◌, ◌<◌, ◌≤◌, ◌^◌, ◌++◌, ℕ, Bool, List, length};
+ghost use Rattle.std.specs.Prelude.{◌≡◌, ◌+◌, ◌<◌, ◌≤◌, ◌^◌, length};
 ghost use Rattle.std.specs.List.{All};
 ghost use Rattle.ac_bits.specs.Bits.{bits, Appends};
 ghost use Rattle.ac_codec.specs.Lists.{spelled_each};

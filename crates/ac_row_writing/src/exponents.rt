@@ -1,7 +1,7 @@
 //! Writing the exponents of all channels.
-ghost use Rattle.std.specs.Prelude.{◌≡◌, ◌+◌, ◌≤◌, ◌<◌, ◌^◌, ◌++◌, ℕ, Bool, List, length};
+ghost use Rattle.std.specs.Prelude.{◌≡◌, ◌+◌, ◌≤◌, ◌<◌, ◌^◌, ℕ, length};
 ghost use Rattle.std.specs.Option.{ForSome};
-ghost use Rattle.ac_bits.specs.Bits.{bits, Appends};
+ghost use Rattle.ac_bits.specs.Bits.{Appends};
 ghost use Rattle.ac_codec.specs.Codec.{some_spell};
 ghost use Rattle.ac_codec.specs.Lists.{spelled_each};
 ghost use Rattle.ac_rows.specs.Filled.{entry};

@@ -1,5 +1,5 @@
 //! Writing a head.
-ghost use Rattle.std.specs.Prelude.{◌≡◌, ◌+◌, ◌≤◌, ◌++◌, List, Bool, false, length, replicate};
+ghost use Rattle.std.specs.Prelude.{◌≡◌, ◌+◌, ◌≤◌, false, length, replicate};
 ghost use Rattle.ac_bits.specs.Bits.{Appends};
 ghost use Rattle.ac_codec.specs.Codec.{Codec};
 ghost use Rattle.ac_rows.specs.HeadRows.{layout, service, head_fields, whole_head, addbsi_bits, layout_of, service_of};

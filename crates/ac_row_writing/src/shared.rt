@@ -1,8 +1,7 @@
 //! Writing coupling coordinates and phase flags.
-ghost use Rattle.std.specs.Prelude.{◌≡◌, ◌+◌, ◌≤◌, ◌<◌, ◌^◌, ◌++◌, ℕ, Bool, [], false, List, length, slice_index_or};
+ghost use Rattle.std.specs.Prelude.{◌≡◌, ◌+◌, ◌≤◌, ◌<◌, ◌^◌, ℕ, [], length, slice_index_or};
 ghost use Rattle.std.specs.Option.{ForSome};
-ghost use Rattle.ac_bits.specs.Bits.{bits, Appends};
-ghost use Rattle.ac_codec.specs.Codec.{some_spell};
+ghost use Rattle.ac_bits.specs.Bits.{Appends};
 ghost use Rattle.ac_codec.specs.Lists.{spelled_each};
 ghost use Rattle.ac_rows.specs.Filled.{entry};
 ghost use Rattle.ac_rows.specs.Groups.{shared_of};

@@ -1,5 +1,5 @@
 //! Writing the first and the last fields of a block.
-ghost use Rattle.std.specs.Prelude.{◌≡◌, ◌+◌, ◌≤◌, Bool, List, length};
+ghost use Rattle.std.specs.Prelude.{◌≡◌, ◌+◌, ◌≤◌, length};
 ghost use Rattle.ac_bits.specs.Bits.{Appends};
 ghost use Rattle.ac_codec.specs.declared.refused.Refused.TheVariants.{ShortBlock};
 ghost use Rattle.ac_rows.specs.Groups.{start_of, rest_of};

@@ -1,5 +1,5 @@
 //! Writing the coupling strategy.
-ghost use Rattle.std.specs.Prelude.{◌≡◌, ◌+◌, ◌≤◌, ℕ, Bool, false, List, length};
+ghost use Rattle.std.specs.Prelude.{◌≡◌, ◌+◌, ◌≤◌, false, length};
 ghost use Rattle.ac_bits.specs.Bits.{Appends};
 ghost use Rattle.ac_rows.specs.Groups.{strategy_of};
 ghost use Rattle.ac_rows.specs.BlockRows.{coupled_each, joined_each, strategy};

@@ -1,5 +1,5 @@
 //! What the rows of a block see of the blocks before it.
-ghost use Rattle.std.specs.Prelude.{◌≡◌, ◌<◌, ◌≤◌, ◌-◌, ℕ, Bool, List, [], Option, length, take, is_some};
+ghost use Rattle.std.specs.Prelude.{◌≡◌, ◌<◌, ◌-◌, [], Option, take, is_some};
 ghost use Rattle.std.specs.List.{count_by};
 ghost use Rattle.std.specs.Option.{option_or};
 ghost use Rattle.ac_base.specs.Shape.{subbands};

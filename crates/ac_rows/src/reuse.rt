@@ -1,7 +1,6 @@
 //! Whether there is something to reuse.
-ghost use Rattle.std.specs.Prelude.{◌≡◌, ◌<◌, ◌≤◌, ◌&&◌, not};
-ghost use Rattle.ac_base.specs.Shape.{coupling_start};
-ghost use Rattle.ac_rows.specs.Filled.{channel_coupled, channel_end, begin_of, end_free};
+ghost use Rattle.std.specs.Prelude.{◌≡◌, ◌<◌, ◌&&◌};
+ghost use Rattle.ac_rows.specs.Filled.{channel_end};
 ghost use Rattle.ac_rows.specs.Known.{may_keep_coordinates, may_keep_shared, may_keep_channel};
 
 use crate::groups::{Coupling, Known};

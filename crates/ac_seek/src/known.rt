@@ -1,8 +1,5 @@
 //! The mantissas of the runs that a search has met.
 ghost use Rattle.std.specs.Prelude.{◌≡◌};
-ghost use Rattle.ac_mant.specs.Counts.{tally};
-ghost use Rattle.ac_cost.specs.Pointers.{run_tally};
-ghost use Rattle.ac_cost.specs.Prices.{AreFew};
 ghost use Rattle.ac_cost.specs.Runs.{IsRunOf};
 
 use crate::board::{PLACES, is_run, place};

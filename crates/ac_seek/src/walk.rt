@@ -2,7 +2,7 @@
 ghost use Rattle.std.specs.Prelude.{◌≡◌, ◌≤◌, ◌<◌, ◌+◌, ◌-◌, ◌*◌, ◌^◌, ◌||◌, ℕ, nat_le, slice_index, slice_index_or, [], ◌∷◌, IfSome, IsNone, IsTrue, IsFalse, MatchOption};
 ghost use Rattle.ac_expo.specs.Raw.{channels};
 ghost use Rattle.ac_cost.specs.Parts.{FitsAt};
-ghost use Rattle.ac_cost.specs.Runs.{IsRunOf, IsAssignmentOf};
+ghost use Rattle.ac_cost.specs.Runs.{IsAssignmentOf};
 ghost use Rattle.ac_seek.specs.Boards.{IsBoard};
 ghost use Rattle.ac_seek.specs.Games.{IsNext, channel_of, boundary_of, channel_after, boundary_after};
 ghost use Rattle.ac_seek.specs.Walks.{Holds, later_steps, laters, IsPassed, IsTurn};

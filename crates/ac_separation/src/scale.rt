@@ -1,5 +1,5 @@
 //! A coupling coordinate as a scale, and a value by it (A/52 7.4.3).
-ghost use Rattle.std.specs.Prelude.{◌≡◌, ◌<◌, ◌≤◌, ◌^◌, ◌+◌, ◌*◌, ◌*ℤ◌, pos, min, [], slice_index_or, unsigned_abs};
+ghost use Rattle.std.specs.Prelude.{◌≡◌, ◌<◌, ◌≤◌, ◌^◌, ◌+◌, ◌*◌, ◌*ℤ◌, pos, min, unsigned_abs};
 ghost use Rattle.ac_base.specs.Floor.{floor_div};
 ghost use Rattle.ac_rows.specs.Filled.{number};
 ghost use Rattle.ac_separation.specs.Separation.{clamped, turned, factor_in, master_in, is_turned};

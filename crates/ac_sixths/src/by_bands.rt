@@ -1,5 +1,5 @@
 //! The sixths of a run of one kind, by whole bands and the bins of cut ones.
-ghost use Rattle.std.specs.Prelude.{◌≡◌, ◌<◌, ◌≤◌, ◌+◌, ◌*◌, ◌-◌, ◌/◌, ◌^◌, min, max, ℕ, List, slice_index, if◌then◌else◌};
+ghost use Rattle.std.specs.Prelude.{◌≡◌, ◌<◌, ◌≤◌, ◌+◌, ◌*◌, ◌-◌, ◌/◌, min, max, ℕ, List, slice_index};
 ghost use Rattle.ac_base.specs.Shape.{IsSpan};
 ghost use Rattle.ac_base.specs.Allocation.{bndtab_list};
 ghost use Rattle.ac_alloc.specs.declared.params.Params.{Params};

@@ -1,5 +1,5 @@
 //! The sixths of a run whose exponents differ by at most 2 from bin to bin, two bins at a time from bin 49 on.
-ghost use Rattle.std.specs.Prelude.{◌≡◌, ◌<◌, ◌≤◌, ◌+◌, ◌*◌, ◌-◌, ◌/◌, ◌^◌, min, max, ℕ, List, slice_index};
+ghost use Rattle.std.specs.Prelude.{◌≡◌, ◌<◌, ◌≤◌, ◌+◌, ◌*◌, ◌-◌, ◌^◌, ℕ, List, slice_index};
 ghost use Rattle.ac_base.specs.Shape.{IsSpan};
 ghost use Rattle.ac_base.specs.Allocation.{bndtab_list};
 ghost use Rattle.ac_alloc.specs.declared.params.Params.{Params};

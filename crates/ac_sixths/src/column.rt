@@ -1,5 +1,5 @@
 //! A column of a table.
-ghost use Rattle.std.specs.Prelude.{◌≡◌, ◌<◌, ℕ, slice_index};
+ghost use Rattle.std.specs.Prelude.{◌≡◌, ◌<◌, slice_index};
 ghost use Rattle.ac_sixths.specs.Runs.{column};
 
 #[inline]

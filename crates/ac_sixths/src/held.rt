@@ -1,5 +1,5 @@
 //! How a run is held: the levels of its exponents and the bases of its masks.
-ghost use Rattle.std.specs.Prelude.{◌≡◌, ◌≢◌, ◌<◌, ◌≤◌, ◌+◌, ◌*◌, ◌-◌, ℕ, ℤ, pos, unsigned_abs, slice_index, slice_index_or, [], List};
+ghost use Rattle.std.specs.Prelude.{◌≡◌, ◌≢◌, ◌<◌, ◌≤◌, ◌+◌, ◌*◌, ◌-◌, ℕ, pos, slice_index, slice_index_or, []};
 ghost use Rattle.ac_alloc.specs.Integration.{AreExponents};
 ghost use Rattle.ac_alloc.specs.Masking.{IsMask, IsLevel};
 ghost use Rattle.ac_sixths.specs.Runs.{level_of, base_of};

@@ -1,5 +1,5 @@
 //! The table of the sixths of two bins.
-ghost use Rattle.std.specs.Prelude.{◌≡◌, ◌<◌, ◌≤◌, ◌+◌, ◌*◌, ◌-◌, ◌/◌, ◌%◌, ℕ, pos, ◌-ℤ◌, slice_index};
+ghost use Rattle.std.specs.Prelude.{◌≡◌, ◌<◌, ◌≤◌, ◌+◌, ◌*◌, ◌-◌, ◌/◌, ◌%◌, pos, ◌-ℤ◌};
 ghost use Rattle.ac_alloc.specs.Keys.{place};
 ghost use Rattle.ac_sixths.specs.Keys.{sixths};
 ghost use Rattle.ac_sixths.specs.Pairs.{pair_sixths, IsPairTable};

@@ -1,5 +1,5 @@
 //! The sixths of all runs of a channel.
-ghost use Rattle.std.specs.Prelude.{◌≡◌, ◌<◌, ◌≤◌, ◌⊎◌, ◌+◌, ◌*◌, ◌-◌, ◌/◌, ℕ, List, [], slice_index, slice_index_or};
+ghost use Rattle.std.specs.Prelude.{◌≡◌, ◌<◌, ◌≤◌, ◌⊎◌, ◌+◌, ◌/◌, ℕ, List, [], slice_index, slice_index_or};
 ghost use Rattle.ac_base.specs.Shape.{IsSpan};
 ghost use Rattle.ac_alloc.specs.declared.params.Params.{Params};
 ghost use Rattle.ac_sixths.specs.Runs.{IsSixthTable, IsRun, column, span_sixths, AreHeld};

@@ -1,5 +1,5 @@
 //! The table of the sixths, by how far the offset is above the key.
-ghost use Rattle.std.specs.Prelude.{◌≡◌, ◌<◌, ◌≤◌, ◌+◌, ◌*◌, ◌-◌, ℕ, pos, ◌-ℤ◌, slice_index};
+ghost use Rattle.std.specs.Prelude.{◌≡◌, ◌<◌, ◌≤◌, ◌-◌, ℕ, pos, ◌-ℤ◌, slice_index};
 ghost use Rattle.ac_alloc.specs.Keys.{place};
 ghost use Rattle.ac_sixths.specs.Keys.{weight, sixths};
 ghost use Rattle.ac_sixths.specs.Runs.{IsSixthTable};

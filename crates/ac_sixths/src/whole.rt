@@ -1,5 +1,5 @@
 //! The sixths of a run from its parameters and exponents.
-ghost use Rattle.std.specs.Prelude.{◌≡◌, ◌<◌, ◌≤◌, ◌+◌, ◌*◌, ◌-◌, ℕ, slice_index};
+ghost use Rattle.std.specs.Prelude.{◌≡◌, ◌<◌, ◌≤◌, ◌+◌, ◌-◌, ℕ, slice_index};
 ghost use Rattle.ac_base.specs.Shape.{IsSpan};
 ghost use Rattle.ac_alloc.specs.Codes.{floor_of};
 ghost use Rattle.ac_base.specs.Spans.{IsKind};

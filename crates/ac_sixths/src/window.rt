@@ -1,7 +1,6 @@
 //! The sixths of a run at sixteen neighbouring offsets.
 ghost use Rattle.std.specs.Prelude.{◌≡◌, ◌<◌, ◌≤◌, ◌+◌, ◌*◌, ◌-◌, ◌^◌, ℕ, List, slice_index};
 ghost use Rattle.ac_base.specs.Shape.{IsSpan};
-ghost use Rattle.ac_base.specs.Allocation.{masktab_list};
 ghost use Rattle.ac_alloc.specs.declared.params.Params.{Params};
 ghost use Rattle.ac_sixths.specs.Runs.{IsSixthTable, IsRun, column, entry_at, total_from, span_sixths};
 

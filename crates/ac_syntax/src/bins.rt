@@ -1,10 +1,10 @@
 //! The bins of a block's coded channels (A/52 7.1.3).
-ghost use Rattle.std.specs.Prelude.{◌≡◌, ◌<◌, ◌≤◌, ◌+◌, ◌*◌, ◌==◌, ◌&&◌, ℕ, false, nat_lt, if◌then◌else◌, Option, None};
+ghost use Rattle.std.specs.Prelude.{◌≡◌, ◌<◌, ◌≤◌, ◌+◌, ◌*◌, ◌==◌, if◌then◌else◌, Option, None};
 ghost use Rattle.std.specs.Option.{ForSome};
-ghost use Rattle.ac_base.specs.Shape.{full_of, full_span, next_span, low_span};
+ghost use Rattle.ac_base.specs.Shape.{full_span, next_span, low_span};
 ghost use Rattle.ac_syntax.specs.Later.{later_span};
 ghost use Rattle.ac_rows.specs.Groups.{strategy_of};
-ghost use Rattle.ac_rows.specs.Filled.{entry, number, holds, listed, range_of, is_coupled, blank_span, span_in, spans_of, HasSpans};
+ghost use Rattle.ac_rows.specs.Filled.{number, holds, listed, range_of, is_coupled, blank_span, span_in, spans_of, HasSpans};
 
 use ac_base::{Lead, Span};
 use ac_rows::{Block, Head, both, full_channels, holds, number};

@@ -1,6 +1,6 @@
 //! A block with each value that it lacks and needs (A/52 5.4.3).
-ghost use Rattle.std.specs.Prelude.{◌≡◌, ◌<◌, ◌≤◌, ◌&&◌, ℕ, Bool, nat_lt, nat_le, is_some, if◌then◌else◌, [], Option, Some, None};
-ghost use Rattle.std.specs.Prelude.{slice_index_or, length};
+ghost use Rattle.std.specs.Prelude.{◌≡◌, ◌<◌, ◌≤◌, ◌&&◌, nat_lt, nat_le, is_some, if◌then◌else◌, [], Option, Some, None};
+ghost use Rattle.std.specs.Prelude.{slice_index_or};
 ghost use Rattle.std.specs.Option.{option_or};
 ghost use Rattle.ac_base.specs.Shape.{full_of, is_stereo, subbands, rematrix_bands};
 ghost use Rattle.ac_rows.specs.Groups.{strategy_of};

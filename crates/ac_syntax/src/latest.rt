@@ -1,5 +1,5 @@
 //! The latest value of each field that may be reused (A/52 5.4.3).
-ghost use Rattle.std.specs.Prelude.{◌≡◌, ◌<◌, ◌≤◌, ℕ, [], Option, None, slice_index_or, take, length};
+ghost use Rattle.std.specs.Prelude.{◌≡◌, ◌<◌, [], Option, None, slice_index_or};
 ghost use Rattle.std.specs.Option.{option_or};
 ghost use Rattle.ac_rows.specs.Filled.{entry, listed};
 ghost use Rattle.ac_syntax.specs.Latest.{over, latest_block};

@@ -1,5 +1,5 @@
 //! One frame of a generated sound.
-ghost use Rattle.std.specs.Prelude.{◌≡◌, ◌+◌, ◌*◌, ◌^◌, ◌<◌, ◌≤◌, IfOk, IfErr, OnErr, MatchResult};
+ghost use Rattle.std.specs.Prelude.{◌≡◌, ◌+◌, ◌*◌, ◌^◌, ◌<◌, ◌≤◌, IfOk, OnErr, MatchResult};
 ghost use Rattle.ac_io.specs.Outside.{Rose};
 ghost use Rattle.ac_synth.specs.Loop.{StandsBefore, IsOfSynth, IsPassed, IsCut};
 

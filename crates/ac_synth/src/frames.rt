@@ -1,5 +1,5 @@
 //! The frames of a generated sound.
-ghost use Rattle.std.specs.Prelude.{◌≡◌, ◌≤◌, OnErr, MatchResult, IfOk};
+ghost use Rattle.std.specs.Prelude.{◌≡◌, ◌≤◌, OnErr, MatchResult};
 ghost use Rattle.ac_dec.specs.Decoding.{at_first};
 ghost use Rattle.ac_io.specs.Outside.{Rose};
 ghost use Rattle.ac_synth.specs.Loop.{StandsBefore, AllDone, FewerDone};

@@ -1,6 +1,6 @@
 //! The sum of the magnitudes of a frame's samples.
-ghost use Rattle.std.specs.Prelude.{◌≡◌, ℕ, ◌*◌, ◌^◌, ◌<◌, ◌≤◌, [], pos, slice_index_or, unsigned_abs};
-ghost use Rattle.ac_base.specs.Sigma.{Within, sum_below};
+ghost use Rattle.std.specs.Prelude.{◌≡◌, ℕ, ◌*◌, ◌^◌, ◌<◌, ◌≤◌, [], slice_index_or, unsigned_abs};
+ghost use Rattle.ac_base.specs.Sigma.{Within};
 ghost use Rattle.ac_synth.specs.Sums.{row_sum, pcm_sum};
 
 use ac_dec::Pcm;

@@ -1,5 +1,5 @@
 //! The tree of an offset at which no assignment fits.
-ghost use Rattle.std.specs.Prelude.{◌≡◌, ℕ, List, IfOk, None};
+ghost use Rattle.std.specs.Prelude.{◌≡◌, List, IfOk, None};
 ghost use Rattle.ac_bound.specs.Ways.{potential};
 ghost use Rattle.ac_seek.specs.declared.step.Step.{Step};
 ghost use Rattle.ac_claim.specs.Trees.{tree_no};

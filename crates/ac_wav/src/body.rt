@@ -3,7 +3,7 @@ ghost use Rattle.std.specs.Prelude.{◌≡◌, ℕ, ◌+◌, ◌*◌, ◌≤◌,
 ghost use Rattle.ac_io.specs.Outside.{Rose};
 ghost use Rattle.ac_riff.specs.Form.{IsOfProfile};
 ghost use Rattle.ac_io.specs.Within.{IsAt, TakesAtMost};
-ghost use Rattle.ac_wav.specs.Samples.{align_of, frame_bytes, part_of, RowsWithin, RowsAre, SamplesRead, IsUnsampled, UnsampledLeaves, IsStanding, PartRead};
+ghost use Rattle.ac_wav.specs.Samples.{align_of, frame_bytes, RowsWithin, SamplesRead, IsUnsampled, UnsampledLeaves, IsStanding, PartRead};
 ghost use Rattle.ac_riff.specs.declared.fault.WavFault.{WavFault};
 
 use crate::samples::{align, spread};

@@ -2,9 +2,7 @@
 ghost use Rattle.std.specs.Prelude.{◌≡◌, ◌⊎◌, ℕ, List};
 ghost use Rattle.ac_riff.specs.declared.fault.WavKind.{WavKind};
 ghost use Rattle.ac_riff.specs.declared.head.WavHead.{WavHead};
-ghost use Rattle.ac_riff.specs.Form.{IsHead};
 ghost use Rattle.ac_wav.specs.Whole.{IsWav};
-ghost use Rattle.ac_riff.specs.Refusal.{Refuses};
 ghost use Rattle.ac_wav.specs.Whole.{RefusesWav, NeedsMore, EndsWithin, RefusedWithin};
 
 /// Each list of bytes is a WAV, with one head and all its data, or is refused for one reason at one place, and never both.

@@ -1,8 +1,8 @@
 //! The samples in the bytes of the data.
-ghost use Rattle.std.specs.Prelude.{◌≡◌, ℕ, ◌+◌, ◌-◌, ◌*◌, ◌/◌, ◌^◌, ◌<◌, ◌≤◌, List, length, drop, ℤ, pos, ◌*ℤ◌, unsigned_abs, slice_index_or, slice_index, ◌%◌};
-ghost use Rattle.byteorder.specs.Endian.{little_number, twos_complement};
+ghost use Rattle.std.specs.Prelude.{◌≡◌, ◌+◌, ◌-◌, ◌*◌, ◌/◌, ◌^◌, ◌<◌, ◌≤◌, length, ℤ, pos, ◌*ℤ◌, unsigned_abs, ◌%◌};
+ghost use Rattle.byteorder.specs.Endian.{twos_complement};
 ghost use Rattle.ac_riff.specs.Form.{IsOfProfile};
-ghost use Rattle.ac_wav.specs.Samples.{width_of, align_of, value_of, offset_of, sample_in, RowIs, RowWithin, RowsAre, RowsWithin};
+ghost use Rattle.ac_wav.specs.Samples.{align_of, value_of, offset_of, sample_in, RowIs, RowWithin, RowsAre, RowsWithin};
 
 use ac_riff::WavHead;
 use byteorder::{ByteOrder, LittleEndian};

@@ -1,8 +1,8 @@
 //! The bytes of decoded sound.
-ghost use Rattle.std.specs.Prelude.{◌≡◌, ℕ, ◌+◌, ◌*◌, ◌^◌, ◌<◌, ◌≤◌, ◌++◌, List, length, take, drop, ℤ, pos, slice_index, slice_index_or, []};
-ghost use Rattle.byteorder.specs.Endian.{little_bytes, low_bytes};
-ghost use Rattle.ac_riff.specs.Layout.{channel_count, coded_of};
-ghost use Rattle.ac_wav.specs.Written.{rate_of, written_mask, head_front, head_depth, head_end, head_of_layout, head_bytes, sample_bytes, places_bytes, samples_bytes, frame_samples};
+ghost use Rattle.std.specs.Prelude.{◌≡◌, ℕ, ◌+◌, ◌*◌, ◌<◌, ◌≤◌, ◌++◌, length, take, drop, pos, slice_index, slice_index_or, []};
+ghost use Rattle.byteorder.specs.Endian.{little_bytes};
+ghost use Rattle.ac_riff.specs.Layout.{channel_count};
+ghost use Rattle.ac_wav.specs.Written.{head_of_layout, head_bytes, sample_bytes, places_bytes, frame_samples};
 
 use ac_riff::layout;
 use byteorder::{ByteOrder, LittleEndian};

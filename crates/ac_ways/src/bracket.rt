@@ -6,7 +6,7 @@ ghost use Rattle.ac_cost.specs.Sixths.{part_of};
 ghost use Rattle.ac_bound.specs.Bounds.{lower_of, nothing, IsOver};
 ghost use Rattle.ac_bound.specs.Roots.{IsRoot};
 ghost use Rattle.ac_windows.specs.Windows.{IsWindow};
-ghost use Rattle.ac_ways.specs.Sixteen.{ways_at, total_at, AreWays, AreTotals, IsBracket, IsOutside};
+ghost use Rattle.ac_ways.specs.Sixteen.{ways_at, AreWays, AreTotals, IsBracket, IsOutside};
 
 use crate::filled::ways;
 use crate::guess::{first_guess, next_guess};

@@ -1,10 +1,10 @@
 //! The potentials of a window.
-ghost use Rattle.std.specs.Prelude.{◌≡◌, ◌<◌, ◌≤◌, ◌+◌, ◌-◌, ◌*◌, ◌^◌, ℕ, List, [], slice_index, slice_index_or};
+ghost use Rattle.std.specs.Prelude.{◌<◌, ◌≤◌, ℕ, List, [], slice_index_or};
 ghost use Rattle.ac_cost.specs.Records.{AtOffset};
 ghost use Rattle.ac_bound.specs.Ways.{IsLeastFrom};
 ghost use Rattle.ac_windows.specs.Windows.{IsWindow};
 ghost use Rattle.ac_ways.specs.Columns.{entry_of, AreCosts, AreFewFrom};
-ghost use Rattle.ac_ways.specs.Sixteen.{ways_at, AreWays, AreFew};
+ghost use Rattle.ac_ways.specs.Sixteen.{AreWays, AreFew};
 
 use crate::held::Ways;
 use crate::kinds::Kinds;

@@ -1,5 +1,5 @@
 //! Potentials at sixteen offsets.
-ghost use Rattle.std.specs.Prelude.{◌≡◌, ◌<◌, ◌≤◌, ℕ, [], slice_index, slice_index_or};
+ghost use Rattle.std.specs.Prelude.{◌≡◌, ◌<◌, ℕ, [], slice_index, slice_index_or};
 ghost use Rattle.ac_cost.specs.Records.{AtOffset};
 ghost use Rattle.ac_bound.specs.Ways.{ArePots, potential};
 ghost use Rattle.ac_ways.specs.Columns.{entry_of};

@@ -1,6 +1,6 @@
 // Potentials of silence, which are worked out by hand, those of frames beside those of single offsets, and root offsets by a program
 // in another language.
-ghost use Rattle.std.specs.Prelude.{◌≡◌, ◌≤◌, ◌<◌, ℕ, List, IsTrue};
+ghost use Rattle.std.specs.Prelude.{◌<◌, ℕ, List, IsTrue};
 ghost use Rattle.ac_cost.specs.Parts.{FitsAt, cheapest_assign};
 
 use crate::{Ways, pots_at, root, ways};

@@ -1,5 +1,5 @@
 //! The mantissas of a run at an offset.
-ghost use Rattle.std.specs.Prelude.{◌≡◌, ◌<◌, ◌≤◌, ◌+◌, ◌*◌, ◌-◌, pos, ◌-ℤ◌, ℕ, slice_index};
+ghost use Rattle.std.specs.Prelude.{◌≡◌, ◌<◌, ◌≤◌, ◌+◌, ◌*◌, ◌-◌, pos, ◌-ℤ◌, slice_index};
 ghost use Rattle.ac_base.specs.Counts.{none, with_one};
 ghost use Rattle.ac_base.specs.Fit.{tally_bins, tally_span};
 ghost use Rattle.ac_base.specs.Shape.{IsSpan};

@@ -1,4 +1,4 @@
-ghost use Rattle.std.specs.Prelude.{◌≡◌, ℕ, map, string_bytes, MatchOption};
+ghost use Rattle.std.specs.Prelude.{ℕ, map, string_bytes, MatchOption};
 ghost use Rattle.ac_words.specs.Asked.{AreCommand};
 ghost use Rattle.ac_words.specs.Grammar.{EncodePairs, SynthPairs};
 ghost use Rattle.ac_words.specs.declared.meaning.Command.{Command};

@@ -1,5 +1,4 @@
-ghost use Rattle.std.specs.Prelude.{◌≡◌, ◌≢◌, ◌<◌, [], ◌∷◌, ◌++◌, length, map, string_bytes, not, MatchOption, IfOk, IsOk, Err, ℕ};
-ghost use Rattle.std.specs.Str.Parse.{starts_with_minus};
+ghost use Rattle.std.specs.Prelude.{◌≡◌, ◌≢◌, ◌<◌, ◌∷◌, ◌++◌, length, map, string_bytes, MatchOption, IfOk, IsOk, Err};
 ghost use Rattle.ac_words.specs.Grammar.{is_name as is_name_text, are_names as are_name_texts, last_words, Means, InGrammar};
 ghost use Rattle.ac_words.specs.Asked.{texts_of, meaning_of, GivesCommand, GivesNames};
 ghost use Rattle.ac_words.specs.Lawful.{IsWithinBounds};

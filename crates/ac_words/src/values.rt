@@ -1,4 +1,4 @@
-ghost use Rattle.std.specs.Prelude.{◌≡◌, ℕ, MatchOption, Option, option_map};
+ghost use Rattle.std.specs.Prelude.{ℕ, MatchOption, Option, option_map};
 ghost use Rattle.ac_words.specs.Grammar.{BandwidthOf, CoupleOf, FramesOf, NodesOf, RateOf, SeedOf};
 ghost use Rattle.ac_words.specs.declared.meaning.Couple.{Couple};
 

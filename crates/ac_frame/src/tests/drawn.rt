@@ -1,5 +1,5 @@
 //! Frames whose values are drawn by chance: layout, LFE, bandwidth, coupling, rate, coefficients, words, offset, flags and coordinates.
-ghost use Rattle.std.specs.Prelude.{◌<◌, ◌≤◌, ◌≡◌, ◌*◌, ◌^◌, ℕ, [], pos, slice_index, slice_index_or, unsigned_abs, IsTrue, IfSome};
+ghost use Rattle.std.specs.Prelude.{◌<◌, ◌≤◌, ◌≡◌, ◌*◌, ℕ, [], slice_index_or, unsigned_abs, IsTrue, IfSome};
 ghost use Rattle.ac_base.specs.Words.{IsWord, word_of};
 ghost use Rattle.ac_expo.specs.Raw.{AreSmallInRow, AreSmallInBlocks, AreSmall};
 ghost use Rattle.ac_cost.specs.Runs.{IsAssignmentOf, TakesLow};

@@ -1,5 +1,5 @@
 //! The samples of a WAV behind its head, 1,536 of each channel at a time.
-ghost use Rattle.std.specs.Prelude.{◌≡◌, ◌≢◌, ℕ, ◌+◌, ◌*◌, ◌≤◌, List, nat_lt, Option, Some, None, IfOk, IfErr, MatchResult, IsErrOf, true, Ok, Err, replicate, pos, ◌||◌};
+ghost use Rattle.std.specs.Prelude.{◌≡◌, ◌≢◌, ℕ, ◌+◌, ◌*◌, ◌≤◌, List, Some, None, IfOk, IfErr, MatchResult, IsErrOf, true, Ok, Err, replicate, pos};
 ghost use Rattle.ac_io.specs.Outside.{Rose};
 ghost use Rattle.ac_riff.specs.Form.{IsOfProfile};
 ghost use Rattle.ac_io.specs.Within.{IsAt, TakesAtMost};
