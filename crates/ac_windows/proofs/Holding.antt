@@ -1,7 +1,7 @@
 -- What is held of the runs of a channel.
-use Rattle.std.proofs.Common.{◌≡◌, ◌≢◌, ℕ, ◌+◌, ◌-◌, ◌/◌, ◌%◌, ◌<◌, ◌≤◌, pos, List, [], slice_index, slice_index_or, refl, sym, ap, ◌∙◌, inl, inr, subst, arith}
+use Rattle.std.proofs.Common.{◌≡◌, ℕ, ◌+◌, ◌-◌, ◌/◌, ◌%◌, ◌<◌, ◌≤◌, List, [], slice_index, slice_index_or, refl, sym, ap, ◌∙◌, subst, arith}
 use Rattle.std.specs.Prelude.{nat_eq, nat_lt, nat_le, ◌&&◌}
-use Rattle.std.proofs.lemmas.Bool.{cases_eq, eqb-true, and_parts, leb-true, ltb-true}
+use Rattle.std.proofs.lemmas.Bool.{eqb-true, and_parts, leb-true, ltb-true}
 use Rattle.ac_base.specs.declared.shapes.Shape.{Shape}
 use Rattle.ac_base.specs.declared.spans.Span.{Span}
 use Rattle.ac_base.specs.declared.spans.Lead.{Lead}
@@ -25,8 +25,7 @@ use Rattle.ac_cost.specs.Rows.{froms, tos, run_of, rows_of}
 use Rattle.ac_cost.specs.Pointers.{run_exps}
 use Rattle.ac_cost.proofs.Exponents.{span_of_shape, run_exps_are, greatest}
 use Rattle.ac_cost.proofs.Listing.{run_taken}
-use Rattle.ac_sixths.specs.Runs.{column, level_of, base_of}
-use Rattle.ac_sixths.proofs.Meanings.{column_at}
+use Rattle.ac_sixths.specs.Runs.{column, level_of}
 use Rattle.ac_sixths.proofs.Steps.{levels_shared}
 use Rattle.ac_masks.specs.Bases.{AreBandBases}
 use Rattle.ac_windows.specs.Held.{AreLevelsOf, AreBases, IsHeldRow, IsHeld}

@@ -6,6 +6,7 @@ ghost use Rattle.ac_cost.specs.Pointers.{run_tally};
 ghost use Rattle.ac_cost.specs.Prices.{AreFew};
 ghost use Rattle.ac_cost.specs.Runs.{IsRunOf};
 ghost use Rattle.ac_mant.specs.Counts.{tally};
+ghost use Rattle.ac_masks.specs.Adding.{IsAddTable};
 ghost use Rattle.ac_windows.specs.Held.{IsHeld};
 ghost use Rattle.ac_windows.specs.Seen.{no_rows};
 ghost use Rattle.ac_windows.specs.Windows.{IsWindow};
@@ -17,6 +18,7 @@ use ac_base::{Run, Shape};
 use ac_cost::{row, row_count};
 use ac_expo::RawExps;
 use ac_mant::Counts;
+use ac_masks::AddTable;
 use ac_sixths::{SixthTable, row_windows};
 use std::marker::Model;
 
@@ -33,6 +35,7 @@ const NONE: Counts = Counts {
 pub struct RunRows {
     shape: Shape,
     raw: RawExps,
+    adds: AddTable,
     table: SixthTable,
     of: [ChannelRows; 7],
 }
@@ -56,12 +59,13 @@ const BLANK: ChannelRows = ChannelRows {
 };
 
 /// What is held of all coded channels.
-fn hold_channels(shape: &Shape, raw: &RawExps, out: &mut [ChannelRows; 7])
+fn hold_channels(adds: &AddTable, shape: &Shape, raw: &RawExps, out: &mut [ChannelRows; 7])
+    requires { IsAddTable adds.now.rises }
     ensures { (c : ℕ) → c < channels shape.now
         → IsHeld shape.now raw.now.e c (slice_index_or out.new c no_rows).levels (slice_index_or out.new c no_rows).bases }
 {
     for c in 0..shape.coded() {
-        hold_channel(shape, raw, c, &mut out[c as usize]);
+        hold_channel(adds, shape, raw, c, &mut out[c as usize]);
     }
 }
 
@@ -70,14 +74,25 @@ impl RunRows {
     pub fn of(shape: &Shape, raw: &RawExps) -> RunRows
         ensures value { result ≡ exponents shape.now raw.now.e }
     {
+        let adds = AddTable::new();
         let mut of = [BLANK; 7];
-        hold_channels(shape, raw, &mut of);
+        hold_channels(&adds, shape, raw, &mut of);
         RunRows {
             shape: *shape,
             raw: *raw,
+            adds,
             table: SixthTable::new(),
             of,
         }
+    }
+
+    /// Holds those of another shape and other raw exponents in the place of what was held. No array is made anew.
+    pub fn fill(&mut self, shape: &Shape, raw: &RawExps)
+        ensures value { self.new ≡ exponents shape.now raw.now.e }
+    {
+        hold_channels(&self.adds, shape, raw, &mut self.of);
+        self.shape = *shape;
+        self.raw = *raw;
     }
 
     /// What they cost at the offsets from `t0` to `t0 + 15`.
