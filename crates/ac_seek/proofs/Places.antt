@@ -6,6 +6,7 @@ use Rattle.ac_base.specs.declared.runs.Run.{Run}
 use Rattle.ac_base.specs.declared.shapes.Shape.{Shape}
 use Rattle.ac_base.specs.Fit.{side_of, rooms_of}
 use Rattle.ac_base.specs.Words.{IsRun}
+use Rattle.ac_expo.specs.Raw.{channels}
 use Rattle.ac_mant.specs.declared.counts.Counts.{Counts}
 use Rattle.ac_cost.specs.Records.{AtOffset}
 use Rattle.ac_cost.specs.Runs.{IsRunOf}
@@ -38,6 +39,11 @@ run-same s i is e =
     let to = place-to s i is e in
     let kind = place-kind s i is e in
     λ j. record { from = from j; to = to j; kind = kind j }
+
+-- it is one of those of the coded channels
+pub place-inside : (shape : Shape) (s : Step) (i : ℕ) → IsRunOf shape s.channel s.run → place_of s ≡ i → i < 126 * channels shape
+place-inside shape s i is e =
+    let o = is.is_run.order in let b = is.is_run.blocks in let f = is.is_run.some in let k = is.is_run.kind in let c = is.channel in omega arith
 
 pub run-back : (shape : Shape) (i : ℕ) (s : Step) → IsRunOf shape s.channel s.run → place_of s ≡ i → IsRunOf shape (i / 126) (run_at i)
 run-back shape i s is e =

@@ -82,14 +82,15 @@ fn cost<C: RunCosts>(shape: &Shape, table: &C, place: usize) -> [u32; 3]
     }
 }
 
-/// Those of all places.
+/// Those of all places; behind the coded channels there are no runs.
 fn costs<C: RunCosts>(shape: &Shape, table: &C) -> [[u32; 3]; 882]
     requires { (C.offset table.now).shape ≡ shape.now }
     ensures value { AreCosts (C.offset table.now) result }
     ensures small { AreSmall result }
 {
     let mut costs = [[0; 3]; PLACES];
-    for place in 0..PLACES {
+    let coded = usize::from(shape.coded());
+    for place in 0..126 * coded {
         costs[place] = cost(shape, table, place);
     }
     costs
