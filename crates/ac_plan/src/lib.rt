@@ -13,8 +13,11 @@ mod tests;
 mod totals;
 mod uniform;
 mod window;
+mod work;
 
 pub use ac_seek::{Seek, seek};
 pub use answer::{Mark, Plan};
 pub use laws::floor_law;
-pub use search::plan;
+pub use search::{plan, plan_in};
+pub use window::Held;
+pub use work::Work;

@@ -11,7 +11,8 @@ ghost use Rattle.ac_plan.specs.Plans.{IsLawful};
 use crate::answer::{Mark, Plan};
 use crate::floor::{cheapest, uniform_plan};
 use crate::held::{begin, seek_at};
-use crate::window::{Held, NOTHING};
+use crate::window::Held;
+use crate::work::Work;
 use ac_base::Shape;
 use ac_expo::{Assign, RawExps};
 use ac_seek::Seek;
@@ -94,6 +95,22 @@ fn descend(shape: &Shape, rows: &RunRows, held: &mut Held, root: u16, nodes: u32
     uniform_plan(shape, rows, held, 0)
 }
 
+/// The plan of a frame by its runs.
+fn search(shape: &Shape, rows: &RunRows, held: &mut Held, nodes: u32) -> Plan
+    requires same { rows.now.shape ≡ shape.now }
+    requires cheapest { FitsAt shape.now rows.now.raw 0 (cheapest_assign shape.now) }
+    requires nodes { nodes ≤ 10000000 }
+    ensures lawful { IsLawful shape.now rows.now.raw nodes result }
+    ensures one { channels shape.now ≡ 1 → result.mark ≡ Best }
+{
+    let root = begin(shape, rows, held);
+    if shape.coded() == 1 {
+        descend_one(shape, rows, held, root, nodes)
+    } else {
+        descend(shape, rows, held, root, nodes)
+    }
+}
+
 /// The greatest offset at which some assignment fits a frame, and one that does, by the frame's raw exponents, where the cheapest
 /// assignment fits at offset 0. With several coded channels the trees of the offsets from the root offset downwards are searched
 /// with so many nodes in all, at most 10,000,000. Where they have more down to some offset, the plan is the greatest offset at
@@ -104,13 +121,17 @@ pub fn plan(shape: &Shape, raw: &RawExps, nodes: u32) -> Plan
     ensures lawful { IsLawful shape.now raw.now.e nodes result }
     ensures one { channels shape.now ≡ 1 → result.mark ≡ Best }
 {
-    let rows = RunRows::of(shape, raw);
-    let nothing = &NOTHING;
-    let mut held = *nothing;
-    let root = begin(shape, &rows, &mut held);
-    if shape.coded() == 1 {
-        descend_one(shape, &rows, &mut held, root, nodes)
-    } else {
-        descend(shape, &rows, &mut held, root, nodes)
-    }
+    let mut work = Work::of(shape, raw);
+    search(shape, &work.rows, &mut work.held, nodes)
+}
+
+/// The same, worked out in arrays that are lent, whatever was in them.
+pub fn plan_in(shape: &Shape, raw: &RawExps, nodes: u32, work: &mut Work) -> Plan
+    requires cheapest { FitsAt shape.now raw.now.e 0 (cheapest_assign shape.now) }
+    requires nodes { nodes ≤ 10000000 }
+    ensures lawful { IsLawful shape.now raw.now.e nodes result }
+    ensures one { channels shape.now ≡ 1 → result.mark ≡ Best }
+{
+    work.rows.fill(shape, raw);
+    search(shape, &work.rows, &mut work.held, nodes)
 }
