@@ -19,6 +19,7 @@ use ac_base::{Coefs, Shape, frame_words};
 use ac_bits::FRAME_BYTES;
 use ac_expo::{Assign, RawExps, word_at};
 use ac_joint::{Coordinate, Coordinates};
+use ac_plan::Work;
 use ac_riff::WavHead;
 use ac_sent::Quantised;
 use ac_words::Options;
@@ -28,6 +29,11 @@ use std::marker::Model;
 /// Coordinates where there is no coupling.
 const NONE: Coordinates = Coordinates {
     of: [[Coordinate { exp: 0, mant: 0 }; 18]; 5],
+};
+
+/// The raw exponents of silence.
+static SILENCE: RawExps = RawExps {
+    e: [[[24; 256]; 6]; 7],
 };
 
 /// The values of a frame before any was put together.
@@ -85,13 +91,15 @@ impl Encoder {
             return Err(fault);
         }
         let words = frame_words(options.rate, sound.fscod, 0);
+        let shape = plain_shape(&options, &sound, words);
         let state = State {
             options,
             sound,
             frames: 0,
             last: [[0; 256]; 6],
             coefs: Coefs::zeros(),
-            q: blank(plain_shape(&options, &sound, words)),
+            work: Work::of(&shape, &SILENCE),
+            q: blank(shape),
         };
         match Box::new(alloc, state) {
             Ok(state) => Ok(Encoder { state }),

@@ -22,7 +22,7 @@ use ac_bits::FRAME_BYTES;
 use ac_coding::code_frame;
 use ac_expo::RawExps;
 use ac_joint::{Joint, join};
-use ac_plan::{Plan, plan};
+use ac_plan::{Plan, Work, plan_in};
 use ac_sent::Quantised;
 use ac_words::Options;
 
@@ -36,7 +36,7 @@ pub struct FrameDone {
 }
 
 /// What an encoder keeps, and the arrays that it works in.
-#[derive(Clone, Copy)]
+#[derive(Drop)]
 pub struct State {
     pub options: Options,
     /// The rate of sampling and the channels.
@@ -47,6 +47,8 @@ pub struct State {
     pub last: [[i32; 256]; 6],
     /// The coefficients of a frame.
     pub coefs: Coefs,
+    /// What is worked out while a frame is planned.
+    pub work: Work,
     /// What is handed in for a frame.
     pub q: Quantised,
 }
@@ -147,7 +149,7 @@ impl State {
             pcm,
             &mut self.coefs,
         );
-        let plan = plan(&made.shape, &made.raw, self.options.nodes);
+        let plan = plan_in(&made.shape, &made.raw, self.options.nodes, &mut self.work);
         self.q.shape = made.shape;
         self.q.remat = made.joint.remat;
         self.q.coords = made.joint.coords;

@@ -9,8 +9,8 @@ use Rattle.ac_enc.proofs.encoder.Encoder.new.Goals as goal
 pub frame_words-words-requires-clause-rate : goal.frame_words-words-requires-clause-rate
 frame_words-words-requires-clause-rate c = rate_most c.args.options.rate c.requires.options.rate
 
-pub plain_shape-requires-clause-least : goal.plain_shape-requires-clause-least
-plain_shape-requires-clause-least c = c.frame_words-words.ensures.least (rate_least c.args.options.rate c.requires.options.rate)
+pub plain_shape-shape-requires-clause-least : goal.plain_shape-shape-requires-clause-least
+plain_shape-shape-requires-clause-least c = c.frame_words-words.ensures.least (rate_least c.args.options.rate c.requires.options.rate)
 
 pub invariant_of-result : goal.invariant_of-result
 invariant_of-result c = first_state c.in-Ok.state.value _ c.in-Ok.ensures.ok (record {

@@ -30,8 +30,8 @@ returns-clause-frame c =
     let z = entry made.new.coefs.c in
     let is = shape_at self.options l self.frames (coefficients x) c.words-words.result shape c.words-words.ensures.value made.ensures.shape in
     let raw_is = raw_agrees shape (joint_of shape (coefficients x)) made.new.coefs.c made.result.raw.e made.ensures.joint made.ensures.raw in
-    frame_made self.options l self.frames x c.plan-plan.result (take c.code_frame-size.result c.code_frame-size.new.out) shape z made.result.raw.e made.result.joint.remat made.result.joint.coords
-    is made.ensures.flags made.ensures.coordinates made.ensures.joint raw_is c.plan-plan.ensures.lawful c.code_frame-size.ensures.frame c.code_frame-size.ensures.back
+    frame_made self.options l self.frames x c.plan_in-plan.result (take c.code_frame-size.result c.code_frame-size.new.out) shape z made.result.raw.e made.result.joint.remat made.result.joint.coords
+    is made.ensures.flags made.ensures.coordinates made.ensures.joint raw_is c.plan_in-plan.ensures.lawful c.code_frame-size.ensures.frame c.code_frame-size.ensures.back
 
 pub returns-clause-last : goal.returns-clause-last
 returns-clause-last c = λ channel below. let few = few_channels (layout_in c.args.self.now.sound) c.args.self.now.sound.modes in c.keep.ensures channel (omega (arith, below, few))
