@@ -7,8 +7,11 @@ use ac_app::{Field, FrameFault, Names, Part, Refused, Status, WavKind, WordsFaul
 use std::{fmt, io};
 
 /// The words that are taken, and where to read on.
-const SYNOPSIS: &str =
-    "usage: ac3 encode --rate K [--nodes N] [--bw C] [--couple off|auto|B,E] IN OUT REPORT\n       ac3 decode IN OUT REPORT\n       ac3 synth --seed S --frames M IN OUT REPORT\nIN and OUT may be - for the standard streams, REPORT - for none; docs/USING.md and docs/ac3.1 say more";
+const SYNOPSIS: &str = "\
+usage: ac3 encode --rate K [--nodes N] [--bw C] [--couple off|auto|B,E] IN OUT REPORT
+       ac3 decode IN OUT REPORT
+       ac3 synth --seed S --frames M IN OUT REPORT
+IN and OUT may be - for a standard stream, REPORT - for none; docs/USING.md and docs/ac3.1 say more";
 
 /// What couldn't be opened or created, and the system's reason.
 #[derive(Clone, Copy)]
