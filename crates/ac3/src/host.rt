@@ -2,8 +2,9 @@
 ghost use Rattle.std.specs.Prelude.{None};
 
 use crate::desk::{Desk, Sharing};
+use crate::hints::{Hint, Unopened};
 use crate::same::sharing;
-use ac_app::{Failed, Sink, StdSink, StdSource};
+use ac_app::{Failed, Names, Sink, StdSink, StdSource};
 use either::{Either, Left, Right};
 use std::fs::File;
 use std::rt::{HostRuntime, Stdin, Stdout};
@@ -12,12 +13,33 @@ use std::rt::{HostRuntime, Stdin, Stdout};
 #[derive(Drop)]
 pub struct HostDesk<'a> {
     rt: &'a HostRuntime,
+    unopened: Option<Unopened>,
 }
 
 impl HostDesk<'_> {
     /// The desk of this system.
     pub fn new(rt: &HostRuntime) -> HostDesk<'_> {
-        HostDesk { rt }
+        HostDesk { rt, unopened: None }
+    }
+
+    /// What couldn't be opened or created, where something couldn't.
+    pub fn unopened(&self) -> Option<Unopened> {
+        self.unopened
+    }
+
+    /// Whether one of the names means the file that standard error is: what is written there would stand in that file.
+    pub fn has_named(&self, named: Names<'_>) -> bool {
+        let error = "/dev/stderr";
+        let is_read = sharing(self.rt, input_path(named.from), error) == Sharing::OneFile;
+        let is_written = sharing(self.rt, output_path(named.to), error) == Sharing::OneFile;
+        let is_reported = named.report != "-"
+            && sharing(self.rt, named.report, error) == Sharing::OneFile;
+        is_read || is_written || is_reported
+    }
+
+    /// Writes a hint on standard error. Where it can't be written nothing changes.
+    pub fn note(&self, hint: Hint<'_>) {
+        let _ = eprintln!(self.rt; "{hint}");
     }
 }
 
@@ -59,7 +81,10 @@ impl Desk for HostDesk<'_> {
     fn open(&mut self, name: &str) -> Result<Self::Input, Failed> {
         match File::open(self.rt, name) {
             Ok(file) => Ok(StdSource::new(Right(file))),
-            Err(_) => Err(Failed),
+            Err(error) => {
+                self.unopened = Some(Unopened::Input(error));
+                Err(Failed)
+            }
         }
     }
 
@@ -70,14 +95,20 @@ impl Desk for HostDesk<'_> {
     fn create_output(&mut self, name: &str) -> Result<Self::Output, Failed> {
         match File::create(self.rt, name) {
             Ok(file) => Ok(StdSink::new(Right(file))),
-            Err(_) => Err(Failed),
+            Err(error) => {
+                self.unopened = Some(Unopened::Output(error));
+                Err(Failed)
+            }
         }
     }
 
     fn create_report(&mut self, name: &str) -> Result<Self::Report, Failed> {
         match File::create(self.rt, name) {
             Ok(file) => Ok(StdSink::new(file)),
-            Err(_) => Err(Failed),
+            Err(error) => {
+                self.unopened = Some(Unopened::Report(error));
+                Err(Failed)
+            }
         }
     }
 

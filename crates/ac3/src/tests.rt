@@ -1,6 +1,8 @@
 //! The program over a desk in memory, which notes what it is asked for.
 ghost use Rattle.std.specs.Prelude.{None};
 
+mod hints;
+
 use crate::desk::{Desk, Sharing};
 use crate::perform::{Ended, perform};
 use ac_app::{Failed, MemSink, MemSource, Status};
