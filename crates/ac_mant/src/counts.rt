@@ -25,12 +25,10 @@ impl Counts {
         requires bound { AreWithin (2 ^ 20 - 1) self.old }
         ensures { tally self.new ≡ with_one (tally self.old) bap }
     {
-        match bap {
-            1 => self.n1 += 1,
-            2 => self.n2 += 1,
-            4 => self.n4 += 1,
-            _ => self.linear += u32::from(own_width(bap)),
-        }
+        self.linear += u32::from(own_width(bap));
+        self.n1 += u32::from(bap == 1);
+        self.n2 += u32::from(bap == 2);
+        self.n4 += u32::from(bap == 4);
     }
 }
 

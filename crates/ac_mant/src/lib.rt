@@ -8,6 +8,7 @@ mod counts;
 mod held;
 mod laws;
 mod packing;
+mod pen;
 mod quantiser;
 mod unpacking;
 mod window;

@@ -7,6 +7,7 @@ ghost use Rattle.ac_mant.specs.Groups.{pointers, closed, after, spelled, IsCoded
 
 use crate::ahead::{Ahead, none, then, width_at};
 use crate::coded::Coded;
+use crate::pen::Pen;
 use ac_bits::BitSink;
 
 /// The first code of this pointer among the mantissas, or 0 where there is none.
@@ -107,17 +108,17 @@ fn number_of(ahead: Ahead, x: Coded, rest: &[Coded]) -> u16
     }
 }
 
-/// Appends the number that stands at a mantissa, with others behind it, and says what was sent ahead then.
+/// Writes the number that stands at a mantissa, with others behind it, and says what was sent ahead then.
 #[inline]
-fn pack_code(x: Coded, rest: &[Coded], ahead: Ahead, sink: &mut BitSink) -> Ahead
+fn pack_code(x: Coded, rest: &[Coded], ahead: Ahead, pen: &mut Pen, sink: &mut BitSink) -> Ahead
     requires coded { IsCoded x }
     requires others { AreCoded rest.now }
-    requires room { length sink.old + length (spelled zeros ahead (x ∷ rest.now)) ≤ frame_bits }
+    requires room { length sink.old + length pen.old ≤ frame_bits }
     ensures ahead { result ≡ after ahead x.bap }
-    ensures bits { sink.new ++ spelled zeros result rest.now ≡ sink.old ++ spelled zeros ahead (x ∷ rest.now) }
+    ensures bits { (sink.new ++ pen.new) ++ spelled zeros result rest.now ≡ (sink.old ++ pen.old) ++ spelled zeros ahead (x ∷ rest.now) }
 {
     let number = number_of(ahead, x, rest);
-    sink.put(u32::from(number), u32::from(width_at(ahead, x.bap)));
+    pen.write(u32::from(number), u32::from(width_at(ahead, x.bap)), sink);
     then(ahead, x.bap)
 }
 
@@ -141,7 +142,9 @@ pub fn pack_block(list: &[Coded], sink: &mut BitSink)
     ensures len { length sink.new ≡ length sink.old + exact_of (tally_of (pointers list.now)) }
 {
     let mut ahead = none();
+    let mut pen = Pen::new();
     for i in 0..list.len() {
-        ahead = pack_code(list[i], behind(list, i), ahead, sink);
+        ahead = pack_code(list[i], behind(list, i), ahead, &mut pen, sink);
     }
+    pen.close(sink);
 }

@@ -1,9 +1,9 @@
 -- The list of a block's mantissas, piece by piece.
-use Rattle.std.proofs.Common.{◌≡◌, ℕ, zero, suc, ◌+◌, ◌-◌, ◌<◌, ◌≤◌, ◌&&◌, Bool, true, false, List, [], ◌∷◌, ◌++◌, append_assoc, take, length, map, slice_index, slice_index_or, slice_set, nat_lt, refl, ap, ap₂, sym, subst, ◌∙◌, arith}
+use Rattle.std.proofs.Common.{◌≡◌, ℕ, zero, suc, ◌+◌, ◌-◌, ◌<◌, ◌≤◌, ◌&&◌, Bool, true, false, List, [], ◌∷◌, ◌++◌, append_assoc, take, length, map, slice_index, slice_index_or, slice_set, nat_lt, refl, ap, ap₂, sym, subst, ◌∙◌, arith, inl, inr}
 use Rattle.std.specs.Prelude.{is_some, not, if◌then◌else◌}
 use Rattle.std.specs.List.{range_with_len}
-use Rattle.std.proofs.lemmas.Bool.{lt-ltb}
-use Rattle.std.proofs.lemmas.List.{append-nil, take_more_set}
+use Rattle.std.proofs.lemmas.Bool.{lt-ltb, cases_eq}
+use Rattle.std.proofs.lemmas.List.{append-nil, take_more_set, get_or-set_same, get_or-set_other}
 use Rattle.std.proofs.lemmas.List.FromFn.{map-range_with_len_more}
 use Rattle.ac_base.specs.declared.shapes.Shape.{Shape}
 use Rattle.ac_base.specs.declared.spans.Span.{Span}
@@ -19,7 +19,7 @@ use Rattle.ac_sent.specs.Fields.{low_number}
 use Rattle.ac_sent.specs.Packed.{sent_mantissas}
 use Rattle.ac_sent.proofs.Spans.{full_least}
 use Rattle.ac_sent.proofs.Tests.{and_not}
-use Rattle.ac_packing.specs.Listing.{ArePointersIn, ArePointers, mantissa_at, coupling_of, later_of, low_of}
+use Rattle.ac_packing.specs.Listing.{ArePointersIn, ArePointers, AreListed, mantissa_at, coupling_of, later_of, low_of}
 
 -- ---- bins
 pub bins_none : {A : Type 0} (f : ℕ → A) (list : List A) (at s n : ℕ) → n ≡ 0 → take (at + n) list ≡ take at list ++ map f (range_with_len s n)
@@ -170,3 +170,19 @@ last_by n k false e h = absurd cc
 
 pub low_last : (shape : Shape) (k : ℕ) → shape.lfe ≡ true → k ≡ channels shape → k - 1 ≡ low_number shape
 low_last shape k e h = last_by (full_of shape.acmod + count_of (is_some shape.couple)) k shape.lfe e h
+
+-- ---- the blocks: a list more behind those that are there
+pub listed_more : (q : Quantised) (lists : List (List Coded)) (counts : List ℕ) (at b n : ℕ) (list : List Coded) → at ≡ b → b < length lists → b < length counts → AreListed q b lists counts → take n list ≡ sent_mantissas q b → n ≤ 1792
+    → AreListed q (b + 1) (slice_set lists at list) (slice_set counts at n)
+listed_more q lists counts at b n list e room place before here few a lt =
+    let P : ℕ → ℕ → List Coded → Type 0 = λ i m l. (take m l ≡ sent_mantissas q i) × (m ≤ 1792) in
+    subst (λ (i : ℕ). P a (slice_index (slice_set counts i n) a) (slice_index_or (slice_set lists i list) a [])) (sym e)
+    (elim (cases_eq a b) [
+      | inl same ↦
+          subst (λ (i : ℕ). P i (slice_index (slice_set counts b n) i) (slice_index_or (slice_set lists b list) i [])) (sym same)
+          (subst (λ (m : ℕ). P b m (slice_index_or (slice_set lists b list) b [])) (sym (get_or-set_same counts b n 0 place))
+          (subst (P b n) (sym (get_or-set_same lists b list [] room)) (here, few)))
+      | inr ne ↦
+          subst (λ (m : ℕ). P a m (slice_index_or (slice_set lists b list) a [])) (sym (get_or-set_other counts b a n 0 ne))
+          (subst (P a (slice_index counts a)) (sym (get_or-set_other lists b a list [] ne)) (before a (omega (arith, lt, ne))))
+    ])

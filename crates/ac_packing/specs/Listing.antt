@@ -1,6 +1,6 @@
 -- The pointers of a frame in an array, by coded channel, block and bin.
-use Rattle.std.specs.Prelude.{◌≡◌, ℕ, ◌-◌, ◌<◌, is_some}
-use Rattle.std.specs.Prelude.{if◌then◌else◌, List, [], ◌∷◌, slice_index, slice_index_or}
+use Rattle.std.specs.Prelude.{◌≡◌, ℕ, ◌-◌, ◌<◌, ◌≤◌, is_some}
+use Rattle.std.specs.Prelude.{if◌then◌else◌, List, [], ◌∷◌, take, slice_index, slice_index_or}
 use Rattle.std.specs.List.{range_with_len}
 use Rattle.ac_base.specs.declared.shapes.Shape.{Shape}
 use Rattle.ac_base.specs.Fit.{exponent_bits, mantissas_in}
@@ -12,6 +12,7 @@ use Rattle.ac_mant.specs.declared.coded.Coded.{Coded}
 use Rattle.ac_mant.specs.Groups.{coded}
 use Rattle.ac_record.specs.Readings.{cell}
 use Rattle.ac_sent.specs.Fields.{pointer_at, code_at, low_number}
+use Rattle.ac_sent.specs.Packed.{sent_mantissas}
 
 -- a row has the pointers of coded channel c in block b
 abbrev pub ArePointersIn : Quantised → ℕ → ℕ → List ℕ → Type 0
@@ -28,6 +29,11 @@ ArePointers q baps = (c : ℕ) → c < channels q.shape → ArePointersOf q c (s
 -- a mantissa: its pointer and its code
 abbrev pub mantissa_at : Quantised → ℕ → ℕ → ℕ → Coded
 mantissa_at q b c k = coded (pointer_at q c b k) (cell q.codes c b k)
+
+-- lists begin with the mantissas of the first n blocks, which are so many
+abbrev pub AreListed : Quantised → ℕ → List (List Coded) → List ℕ → Type 0
+AreListed q n lists counts =
+    (b : ℕ) → b < n → (take (slice_index counts b) (slice_index_or lists b []) ≡ sent_mantissas q b) × (slice_index counts b ≤ 1792)
 
 -- ---- the coded channels in the order of their mantissas (A/52 5.3.3): the first full channel, and behind it
 -- the coupling channel, where there is one

@@ -7,9 +7,9 @@ ghost use Rattle.ac_sent.specs.Asked.{IsQuantised, IsSizeCode};
 ghost use Rattle.ac_sent.specs.Fields.{sent_head, sent_block, parts_at};
 ghost use Rattle.ac_sent.specs.Packed.{sent_part, sent_record};
 ghost use Rattle.ac_sent.specs.Padding.{to_skip};
-ghost use Rattle.ac_packing.specs.Listing.{ArePointers};
+ghost use Rattle.ac_packing.specs.Listing.{AreListed};
 
-use crate::mantissas::{MOST, list_block};
+use crate::mantissas::{MOST, listed};
 use crate::padding::skipl_of;
 use ac_base::TAIL_BITS;
 use ac_bits::{BitSink, FRAME_BYTES};
@@ -51,24 +51,23 @@ fn put_block(
     q: &Quantised,
     head: &Head,
     blocks: &[Block; 6],
-    baps: &[[[u8; 256]; 6]; 7],
+    lists: &[[Coded; MOST]; 6],
+    counts: &[usize; 6],
     b: u8,
-    list: &mut [Coded; MOST],
     sink: &mut BitSink,
 )
     requires asked { IsQuantised q.now }
     requires head { head.now ≡ sent_head q.now.shape head.now.frmsizecod 0 }
     requires code { head.now.frmsizecod < 38 }
     requires blocks { blocks.now ≡ listed 6 0 (sent_block q.now) }
-    requires pointers { ArePointers q.now baps.now }
+    requires listed { AreListed q.now 6 lists.now counts.now }
     requires block { b < 6 }
     requires room { length sink.old + length (block_spelled head.now (listed b 0 (sent_block q.now)) (sent_part q.now b)) ≤ 30720 }
     ensures adds { Appends sink.old sink.new (block_spelled head.now (listed b 0 (sent_block q.now)) (sent_part q.now b)) }
 {
     let at = usize::from(b);
     write_block(head, &blocks[..at], &blocks[at], sink);
-    let count = list_block(q, baps, b, list);
-    pack_block(&list[..count], sink);
+    pack_block(listed(lists, counts, b), sink);
 }
 
 /// Appends the six blocks.
@@ -76,20 +75,20 @@ fn put_blocks(
     q: &Quantised,
     head: &Head,
     blocks: &[Block; 6],
-    baps: &[[[u8; 256]; 6]; 7],
-    list: &mut [Coded; MOST],
+    lists: &[[Coded; MOST]; 6],
+    counts: &[usize; 6],
     sink: &mut BitSink,
 )
     requires asked { IsQuantised q.now }
     requires head { head.now ≡ sent_head q.now.shape head.now.frmsizecod 0 }
     requires code { head.now.frmsizecod < 38 }
     requires blocks { blocks.now ≡ listed 6 0 (sent_block q.now) }
-    requires pointers { ArePointers q.now baps.now }
+    requires listed { AreListed q.now 6 lists.now counts.now }
     requires room { length sink.old + length (blocks_spelled head.now [] (listed 6 0 (sent_part q.now))) ≤ 30720 }
     ensures adds { Appends sink.old sink.new (blocks_spelled head.now [] (listed 6 0 (sent_part q.now))) }
 {
     for b in 0..6 {
-        put_block(q, head, blocks, baps, b, list, sink);
+        put_block(q, head, blocks, lists, counts, b, sink);
     }
 }
 
@@ -106,20 +105,20 @@ fn put_tail(aux: u32, crcrsv: bool, sink: &mut BitSink)
 }
 
 /// Writes the frame with this frmsizecod and crcrsv, and CRC words of 0, where the skip fields take `x` bits in all; says how many
-/// bytes they are. `list` is room for the mantissas of a block.
+/// bytes they are.
 pub fn write_body(
     q: &Quantised,
     code: u8,
     x: u32,
     crcrsv: bool,
-    baps: &[[[u8; 256]; 6]; 7],
-    list: &mut [Coded; MOST],
+    lists: &[[Coded; MOST]; 6],
+    counts: &[usize; 6],
     out: &mut [u8; FRAME_BYTES],
 ) -> usize
     requires asked { IsQuantised q.now }
     requires code { IsSizeCode q.now.shape.fscod q.now.shape.words code }
     requires skipped { x ≡ to_skip q.now.shape.words (parts_at q.now).total (parts_at q.now).last }
-    requires pointers { ArePointers q.now baps.now }
+    requires listed { AreListed q.now 6 lists.now counts.now }
     ensures count { result ≡ 2 * q.now.shape.words }
     ensures bytes { bits_of (take result out.new) ≡ record_spelled (sent_record q.now code 0 crcrsv 0) }
 {
@@ -127,7 +126,7 @@ pub fn write_body(
     let blocks = blocks(q, x);
     let mut sink = BitSink::new();
     write_head(&head, &mut sink);
-    put_blocks(q, &head, &blocks, baps, list, &mut sink);
+    put_blocks(q, &head, &blocks, lists, counts, &mut sink);
     let aux = 16 * u32::from(q.shape.words) - TAIL_BITS - sink.len();
     put_tail(aux, crcrsv, &mut sink);
     sink.bytes(out)

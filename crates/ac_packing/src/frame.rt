@@ -6,10 +6,10 @@ ghost use Rattle.ac_sent.specs.Asked.{IsQuantised, IsSizeCode};
 ghost use Rattle.ac_sent.specs.Fields.{parts_at};
 ghost use Rattle.ac_sent.specs.Packed.{IsPacked};
 ghost use Rattle.ac_sent.specs.Padding.{to_skip};
-ghost use Rattle.ac_packing.specs.Listing.{ArePointers};
+ghost use Rattle.ac_packing.specs.Listing.{AreListed};
 
 use crate::body::write_body;
-use crate::mantissas::MOST;
+use crate::mantissas::{MOST, list_blocks};
 use crate::padding::bits_to_skip;
 use crate::parts::parts;
 use crate::pointers::allocate_frame;
@@ -66,30 +66,30 @@ fn assemble(crc1: u16, body: &[u8], out: &mut [u8; FRAME_BYTES]) -> u16
     crc2
 }
 
-/// Writes the frame with this frmsizecod, where the skip fields take `x` bits in all. `list` is room for the mantissas of a block.
+/// Writes the frame with this frmsizecod, where the skip fields take `x` bits in all.
 fn write_frame(
     q: &Quantised,
     code: u8,
     x: u32,
-    baps: &[[[u8; 256]; 6]; 7],
-    list: &mut [Coded; MOST],
+    lists: &[[Coded; MOST]; 6],
+    counts: &[usize; 6],
     out: &mut [u8; FRAME_BYTES],
 ) -> usize
     requires asked { IsQuantised q.now }
     requires code { IsSizeCode q.now.shape.fscod q.now.shape.words code }
     requires skipped { x ≡ to_skip q.now.shape.words (parts_at q.now).total (parts_at q.now).last }
-    requires pointers { ArePointers q.now baps.now }
+    requires listed { AreListed q.now 6 lists.now counts.now }
     ensures size { result ≡ 2 * q.now.shape.words }
     ensures frame { IsPacked q.now (take result out.new) }
     ensures rest { drop result out.new ≡ drop result out.old }
 {
     let mut body = [0; FRAME_BYTES];
-    let count = write_body(q, code, x, false, baps, list, &mut body);
+    let count = write_body(q, code, x, false, lists, counts, &mut body);
     let crc1 = leading_word(behind_crc1(&body, 2 * usize::from(front_words(q.shape.words))));
     if assemble(crc1, behind_crc1(&body, count - 2), out) != SYNC_WORD {
         return count;
     }
-    write_body(q, code, x, true, baps, list, &mut body);
+    write_body(q, code, x, true, lists, counts, &mut body);
     assemble(crc1, behind_crc1(&body, count - 2), out);
     count
 }
@@ -110,8 +110,9 @@ pub fn pack(q: &Quantised, out: &mut [u8; FRAME_BYTES]) -> usize
     };
     let mut baps = [[[0; 256]; 6]; 7];
     allocate_frame(q, &mut baps);
-    let mut list = [Coded { bap: 0, code: 0 }; MOST];
-    let (total, last) = parts(q, &baps, &mut list);
+    let mut lists = [[Coded { bap: 0, code: 0 }; MOST]; 6];
+    let counts = list_blocks(q, &baps, &mut lists);
+    let (total, last) = parts(q, &lists, &counts);
     let x = bits_to_skip(q.shape.words, total, last);
-    write_frame(q, code, x, &baps, &mut list, out)
+    write_frame(q, code, x, &lists, &counts, out)
 }

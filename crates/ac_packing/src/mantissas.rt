@@ -1,11 +1,11 @@
 //! The mantissas of a block in their order (A/52 5.3.3).
-ghost use Rattle.std.specs.Prelude.{◌≡◌, ◌<◌, ◌≤◌, ◌+◌, ◌-◌, ◌++◌, take, slice_index};
+ghost use Rattle.std.specs.Prelude.{◌≡◌, ◌<◌, ◌≤◌, ◌+◌, ◌-◌, ◌++◌, [], length, take, slice_index, slice_index_or};
 ghost use Rattle.ac_expo.specs.Raw.{channels, channel_span};
 ghost use Rattle.ac_mant.specs.declared.coded.Coded.{Coded};
 ghost use Rattle.ac_mant.specs.Groups.{coded};
 ghost use Rattle.ac_record.specs.Order.{over_bins, over_channels};
 ghost use Rattle.ac_sent.specs.Packed.{sent_mantissas};
-ghost use Rattle.ac_packing.specs.Listing.{ArePointers, mantissa_at, coupling_of, later_of, low_of};
+ghost use Rattle.ac_packing.specs.Listing.{ArePointers, AreListed, mantissa_at, coupling_of, later_of, low_of};
 
 use ac_base::Span;
 use ac_mant::Coded;
@@ -133,12 +133,7 @@ fn list_low(
 }
 
 /// Writes the mantissas of block `b` to the front of the list, and says how many they are.
-pub fn list_block(
-    q: &Quantised,
-    baps: &[[[u8; 256]; 6]; 7],
-    b: u8,
-    list: &mut [Coded; MOST],
-) -> usize
+fn list_block(q: &Quantised, baps: &[[[u8; 256]; 6]; 7], b: u8, list: &mut [Coded; MOST]) -> usize
     requires pointers { ArePointers q.now baps.now }
     requires block { b < 6 }
     ensures list { take result list.new ≡ sent_mantissas q.now b }
@@ -148,4 +143,32 @@ pub fn list_block(
     let coupled = list_coupling(q, baps, b, first, list);
     let full = list_later(q, baps, b, coupled, list);
     list_low(q, baps, b, full, list)
+}
+
+/// Writes the mantissas of each block to the front of its list, and says how many they are.
+pub fn list_blocks(
+    q: &Quantised,
+    baps: &[[[u8; 256]; 6]; 7],
+    lists: &mut [[Coded; MOST]; 6],
+) -> [usize; 6]
+    requires { ArePointers q.now baps.now }
+    ensures { AreListed q.now 6 lists.new result }
+{
+    let mut counts = [0; 6];
+    for b in 0..6u8 {
+        let at = usize::from(b);
+        counts[at] = list_block(q, baps, b, &mut lists[at]);
+    }
+    counts
+}
+
+/// The front of the list of block `b`.
+pub fn listed<'a>(lists: &'a [[Coded; MOST]; 6], counts: &[usize; 6], b: u8) -> &'a [Coded]
+    requires block { b < 6 }
+    requires room { slice_index counts.now b ≤ 1792 }
+    ensures value { result.now ≡ take (slice_index counts.now b) (slice_index_or lists.now b []) }
+    ensures len { length result.now ≤ 1792 }
+{
+    let at = usize::from(b);
+    &lists[at][..counts[at]]
 }

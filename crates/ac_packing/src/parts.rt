@@ -8,9 +8,9 @@ ghost use Rattle.ac_expo.specs.Raw.{channels, channel_span};
 ghost use Rattle.ac_mant.specs.Groups.{pointers, AreCoded};
 ghost use Rattle.ac_sent.specs.Asked.{IsQuantised};
 ghost use Rattle.ac_sent.specs.Fields.{parts_at};
-ghost use Rattle.ac_packing.specs.Listing.{ArePointers, exponents_of, mantissas_of};
+ghost use Rattle.ac_packing.specs.Listing.{AreListed, exponents_of, mantissas_of};
 
-use crate::mantissas::{MOST, list_block};
+use crate::mantissas::{MOST, listed};
 use ac_base::{Lead, Span, side_bits};
 use ac_expo::groups;
 use ac_mant::{Coded, Counts, exact};
@@ -88,34 +88,28 @@ fn cost(list: &[Coded]) -> u32
     exact(&counts)
 }
 
-/// The bits of the mantissas of block `b`; `list` is room for them.
-fn block_mantissas(
-    q: &Quantised,
-    baps: &[[[u8; 256]; 6]; 7],
-    b: u8,
-    list: &mut [Coded; MOST],
-) -> u32
+/// The bits of the mantissas of block `b`, which are listed.
+fn block_mantissas(q: &Quantised, lists: &[[Coded; MOST]; 6], counts: &[usize; 6], b: u8) -> u32
     requires asked { IsQuantised q.now }
-    requires pointers { ArePointers q.now baps.now }
+    requires listed { AreListed q.now 6 lists.now counts.now }
     requires block { b < 6 }
     ensures value { result ≡ mantissas_of q.now b }
     ensures bound { result ≤ 2 ^ 16 }
 {
-    let count = list_block(q, baps, b, list);
-    cost(&list[..count])
+    cost(listed(lists, counts, b))
 }
 
-/// The bits of all parts of the frame but its padding, and those of block 5's mantissas; `list` is room for mantissas.
-pub fn parts(q: &Quantised, baps: &[[[u8; 256]; 6]; 7], list: &mut [Coded; MOST]) -> (u32, u32)
+/// The bits of all parts of the frame but its padding, and those of block 5's mantissas.
+pub fn parts(q: &Quantised, lists: &[[Coded; MOST]; 6], counts: &[usize; 6]) -> (u32, u32)
     requires asked { IsQuantised q.now }
-    requires pointers { ArePointers q.now baps.now }
+    requires listed { AreListed q.now 6 lists.now counts.now }
     ensures total { result.0 ≡ (parts_at q.now).total }
     ensures last { result.1 ≡ (parts_at q.now).last }
 {
     let mut total = side_bits(&q.shape).total;
     for b in 0..5 {
-        total += block_exponents(q, b) + block_mantissas(q, baps, b, list);
+        total += block_exponents(q, b) + block_mantissas(q, lists, counts, b);
     }
-    let last = block_mantissas(q, baps, 5, list);
+    let last = block_mantissas(q, lists, counts, 5);
     (total + block_exponents(q, 5) + last, last)
 }

@@ -1,4 +1,4 @@
-use Rattle.std.proofs.Common.{◌≡◌, ◌+◌, ◌*◌, ◌≤◌, pos, slice_index_or, SFits, w32}
+use Rattle.std.proofs.Common.{◌+◌, ◌*◌, pos, slice_index_or, SFits, w32}
 use Rattle.std.proofs.lemmas.Int.{to_z-of_z}
 use Rattle.ac_mant.specs.declared.quantiser.TheConstants.{MIDDLES}
 use Rattle.ac_mant.proofs.Middles.{middle_listed, middle_fits}

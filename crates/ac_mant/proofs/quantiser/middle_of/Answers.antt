@@ -1,4 +1,4 @@
-use Rattle.std.proofs.Common.{◌≡◌, ◌^◌, ◌≤◌, ℤ, SFits, w32, w64, rules, arith, ap, ◌∙◌}
+use Rattle.std.proofs.Common.{◌≡◌, ◌^◌, ℤ, SFits, w32, w64, rules, arith, ap, ◌∙◌}
 use Rattle.std.proofs.lemmas.Int.{to_z-of_z}
 use Rattle.ac_base.specs.Floor.{floor_div}
 use Rattle.ac_mant.specs.Quantiser.{levels, middle}

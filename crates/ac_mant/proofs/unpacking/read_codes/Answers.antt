@@ -1,4 +1,4 @@
-use Rattle.std.proofs.Common.{◌≡◌, ◌-◌, Ok, length, drop, ap, ap₂, sym, subst, ◌∙◌, arith}
+use Rattle.std.proofs.Common.{◌≡◌, ◌-◌, Ok, drop, ap, ap₂, sym, subst, ◌∙◌, arith}
 use Rattle.ac_mant.specs.Unpacking.{nothing, read_from}
 use Rattle.ac_mant.proofs.Clauses.{read_behind}
 use Rattle.ac_mant.proofs.Spelled.{low_pointers}

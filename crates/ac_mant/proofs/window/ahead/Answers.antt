@@ -1,4 +1,4 @@
-use Rattle.std.proofs.Common.{◌≡◌, ◌<◌, ◌≤◌, ◌+◌, ◌^◌, ◌++◌, arith, rules}
+use Rattle.std.proofs.Common.{◌≡◌, ◌<◌, ◌^◌, ◌++◌, arith, rules}
 use Rattle.ac_bits.specs.Bits.{bits}
 use Rattle.ac_bits.proofs.Laws.{put_fits}
 use Rattle.ac_mant.proofs.Windows.{joined}
