@@ -10,3 +10,4 @@ pub mod Places
 pub mod Spellings
 pub mod Refusals
 pub mod Agreeing
+pub mod Summed

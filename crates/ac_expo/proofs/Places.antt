@@ -221,6 +221,10 @@ near_steps kind span exps is_span p g =
       | inr ne ↦ near_later kind span exps p g (omega arith)
     ]
 
+pub near_next : (kind : ℕ) (span : Span) (exps : List ℕ) → IsSpan span → IsPlaced kind span exps → (g h : ℕ) → h ≡ g + 1 → (at_step kind span exps h ≤ at_step kind span exps g + 2) × (at_step kind span exps g ≤ at_step kind span exps h + 2)
+near_next kind span exps is_span p g h e =
+    subst (λ k. (at_step kind span exps k ≤ at_step kind span exps g + 2) × (at_step kind span exps g ≤ at_step kind span exps k + 2)) (sym e) (near_steps kind span exps is_span p g)
+
 pub at_small : (kind : ℕ) (span : Span) (exps : List ℕ) → IsSpan span → IsPlaced kind span exps → (g : ℕ) → at_step kind span exps g ≤ 24
 at_small kind span exps is_span p g =
     let some = p.some in

@@ -1,12 +1,12 @@
 //! From groups to exponents.
-ghost use Rattle.std.specs.Prelude.{◌≡◌, ◌↔◌, ℕ, ◌+◌, ◌-◌, ◌*◌, ◌<◌, ◌≤◌};
+ghost use Rattle.std.specs.Prelude.{◌≡◌, ◌↔◌, ℕ, ◌+◌, ◌*◌, ◌/◌, ◌%◌, ◌≤◌};
 ghost use Rattle.std.specs.Prelude.{IsTrue, IfOk, IfErr, MatchOption, MatchResult, length, slice_index};
 ghost use Rattle.ac_base.specs.Spans.{IsIn, IsKind};
 ghost use Rattle.ac_base.specs.Shape.{IsSpan};
 ghost use Rattle.ac_base.specs.Spans.{groups_of};
 ghost use Rattle.ac_expo.specs.Greatest.{IsSpellable};
-ghost use Rattle.ac_expo.specs.Groups.{mapped_of, sum_to, IsRefused, IsFirstRefused, NoneRefused, IsExpanded};
-ghost use Rattle.ac_expo.specs.Sums.{IsBadSum, HasBadSum, AreGoodSums, AreOfSums};
+ghost use Rattle.ac_expo.specs.Groups.{IsFirstRefused, NoneRefused, IsExpanded};
+ghost use Rattle.ac_expo.specs.Sums.{with_group, AreSums, IsBadSum, HasBadSum, IsBadGroup, AreGoodSums, AreOfSums};
 
 use crate::grouping::before;
 use crate::spelled::Spelled;
@@ -23,31 +23,42 @@ pub struct BadExponent {
 /// The group of three differences of 2.
 const GREATEST_GROUP: u8 = 124;
 
-/// A difference plus 2, from its group.
-#[tactic(auto, unfolding(crate::specs::Groups::mapped_of))]
-fn mapped(spelled: &Spelled, i: usize) -> u8
-    requires within { i < 3 * length spelled.now.groups }
-    requires bound { i < 252 }
-    ensures value { result ≡ mapped_of spelled.now.groups i }
-    ensures bound { result ≤ 10 }
+/// Puts the sums of the three steps of a group behind that of step `at`, and answers the last.
+#[inline]
+fn put_group(group: u8, at: usize, sum: u16, sums: &mut [u16; 256]) -> u16
+    requires place { at ≤ 252 }
+    requires room { sum ≤ 30 + 10 * at }
+    ensures sums { sums.new ≡ with_group group at sum sums.old }
+    ensures last { result ≡ sum + group / 25 + group / 5 % 5 + group % 5 }
+    ensures bound { result ≤ 60 + 10 * at }
 {
-    let group = spelled.group_at((i / 3) as u8);
-    match i % 3 {
-        0 => group / 25,
-        1 => group / 5 % 5,
-        _ => group % 5,
-    }
+    let first = sum + u16::from(group / 25);
+    let second = first + u16::from(group / 5 % 5);
+    let third = second + u16::from(group % 5);
+    sums[at + 1] = first;
+    sums[at + 2] = second;
+    sums[at + 3] = third;
+    third
 }
 
-/// The reference and the first differences, each plus 2, up to each step.
-fn sums_of(lead: Lead, spelled: &Spelled) -> [u16; 256]
+/// The reference and the first differences, each plus 2, up to each step that the groups spell: the exponent of step `g` is the
+/// sum less `2 g`, where it isn't below 0 (A/52 7.1.3).
+///
+/// The first exponent is at most 15.
+pub fn sums_of(lead: Lead, spelled: &Spelled) -> [u16; 256]
     requires { spelled.now.first ≤ 15 }
-    ensures { (g : ℕ) → g ≤ 3 * length spelled.now.groups → slice_index result g ≡ sum_to lead spelled.now g }
+    ensures { AreSums lead spelled.now (3 * length spelled.now.groups) result }
 {
     let mut sums = [0; 256];
-    sums[0] = u16::from(before(lead, spelled.first()));
-    for i in 0..3 * usize::from(spelled.len()) {
-        sums[i + 1] = sums[i] + u16::from(mapped(spelled, i));
+    let mut sum = u16::from(before(lead, spelled.first()));
+    sums[0] = sum;
+    for place in 0..spelled.len() {
+        sum = put_group(
+            spelled.group_at(place),
+            3 * usize::from(place),
+            sum,
+            &mut sums,
+        );
     }
     sums
 }
@@ -73,20 +84,14 @@ fn has_bad(sums: &[u16; 256], last: usize, at: usize) -> bool
     is_bad(sums, last, at + 1) || is_bad(sums, last, at + 2) || is_bad(sums, last, at + 3)
 }
 
-/// Whether a group is over 124 or gives an exponent outside 0 to 24 at a bin below the end.
-fn is_refused(kind: u8, span: &Span, spelled: &Spelled, sums: &[u16; 256], place: u8) -> bool
-    requires kind { IsKind kind span.now }
-    requires span { IsSpan span.now }
-    requires count { length spelled.now.groups ≡ groups_of kind span.now }
-    requires place { place < length spelled.now.groups }
-    requires sums { (g : ℕ) → g ≤ 3 * length spelled.now.groups → slice_index sums.now g ≡ sum_to span.now.lead spelled.now g }
-    ensures { IsTrue result ↔ IsRefused kind span.now spelled.now place }
+/// Whether a group is over 124 or gives an exponent outside 0 to 24 at one of the steps behind step `at`.
+#[inline]
+fn is_bad_group(group: u8, sums: &[u16; 256], last: usize, at: usize) -> bool
+    requires last { last ≤ 252 }
+    requires at { at ≤ 252 }
+    ensures { IsTrue result ↔ IsBadGroup group sums.now last at }
 {
-    if spelled.group_at(place) > GREATEST_GROUP {
-        return true;
-    }
-    let last = step(kind, span, usize::from(span.end) - 1);
-    has_bad(sums, last, 3 * usize::from(place))
+    group > GREATEST_GROUP || has_bad(sums, last, at)
 }
 
 /// The place of the first group that is refused.
@@ -94,15 +99,38 @@ fn first_refused(kind: u8, span: &Span, spelled: &Spelled, sums: &[u16; 256]) ->
     requires kind { IsKind kind span.now }
     requires span { IsSpan span.now }
     requires count { length spelled.now.groups ≡ groups_of kind span.now }
-    requires sums { (g : ℕ) → g ≤ 3 * length spelled.now.groups → slice_index sums.now g ≡ sum_to span.now.lead spelled.now g }
+    requires sums { AreSums span.now.lead spelled.now (3 * length spelled.now.groups) sums.now }
     ensures { MatchOption result (NoneRefused kind span.now spelled.now) (λ place. IsFirstRefused kind span.now spelled.now place) }
 {
+    let last = step(kind, span, usize::from(span.end) - 1);
     for place in 0..spelled.len() {
-        if is_refused(kind, span, spelled, sums, place) {
+        if is_bad_group(spelled.group_at(place), sums, last, 3 * usize::from(place)) {
             return Some(place);
         }
     }
     None
+}
+
+/// Tests that a spelling gives exponents to the bins of its span (A/52 7.1.3).
+///
+/// The spelling has the groups of its kind and span, and a first exponent of at most 15.
+///
+/// # Errors
+///
+/// `BadExponent` exactly where a group is over 124 or gives an exponent outside 0 to 24 at a bin below the end, with the place of
+/// the first such group.
+pub fn check(kind: u8, span: &Span, spelled: &Spelled) -> Result<(), BadExponent>
+    requires kind { IsKind kind span.now }
+    requires span { IsSpan span.now }
+    requires count { length spelled.now.groups ≡ groups_of kind span.now }
+    requires first { spelled.now.first ≤ 15 }
+    ensures cause { MatchResult result (λ _. NoneRefused kind span.now spelled.now)
+        (λ bad. IsFirstRefused kind span.now spelled.now bad.place) }
+{
+    match first_refused(kind, span, spelled, &sums_of(span.lead, spelled)) {
+        Some(place) => Err(BadExponent { place }),
+        None => Ok(()),
+    }
 }
 
 /// Gives each bin of the span the exponent of its step.

@@ -5,7 +5,7 @@ ghost use Rattle.ac_base.specs.Shape.{IsSpan};
 ghost use Rattle.ac_base.specs.Spans.{groups_of};
 ghost use Rattle.ac_expo.specs.Steps.{bin_of};
 ghost use Rattle.ac_expo.specs.Greatest.{IsSpellable};
-ghost use Rattle.ac_expo.specs.Groups.{first_of, reference, past, at_step, mapped, group_of, spelled_of};
+ghost use Rattle.ac_expo.specs.Groups.{first_of, reference, past, at_step, group_of, spelled_of};
 
 use crate::spelled::Spelled;
 use crate::steps::{coupling, groups, step};
@@ -79,30 +79,34 @@ fn exponent(kind: u8, span: &Span, exps: &[u8; 256], at: usize) -> u8
     }
 }
 
-/// A difference plus 2.
-fn difference(kind: u8, span: &Span, exps: &[u8; 256], i: usize) -> u8
-    requires kind { IsKind kind span.now }
-    requires span { IsSpan span.now }
-    requires can { IsSpellable kind span.now exps.now }
-    requires bound { i < 252 }
-    ensures value { result ≡ mapped kind span.now exps.now i }
+/// The difference of an exponent from the one before it, plus 2.
+#[inline]
+fn difference(before: u8, after: u8) -> u8
+    requires small { after ≤ 24 }
+    requires up { after ≤ before + 2 }
+    requires down { before ≤ after + 2 }
+    ensures value { result ≡ after + 2 - before }
     ensures bound { result ≤ 4 }
 {
-    exponent(kind, span, exps, i + 1) + 2 - exponent(kind, span, exps, i)
+    after + 2 - before
 }
 
-/// A group of three differences in 7 bits.
-fn packed(kind: u8, span: &Span, exps: &[u8; 256], place: usize) -> u8
+/// A group of three differences in 7 bits, behind the exponent before it; and the last exponent of the group.
+#[inline]
+fn packed(kind: u8, span: &Span, exps: &[u8; 256], place: usize, before: u8) -> (u8, u8)
     requires kind { IsKind kind span.now }
     requires span { IsSpan span.now }
     requires can { IsSpellable kind span.now exps.now }
     requires bound { place < 84 }
-    ensures { result ≡ group_of kind span.now exps.now place }
+    requires before { before ≡ at_step kind span.now exps.now (3 * place) }
+    ensures group { result.0 ≡ group_of kind span.now exps.now place }
+    ensures last { result.1 ≡ at_step kind span.now exps.now (3 * (place + 1)) }
 {
-    let first = difference(kind, span, exps, 3 * place);
-    let second = difference(kind, span, exps, 3 * place + 1);
-    let third = difference(kind, span, exps, 3 * place + 2);
-    25 * first + 5 * second + third
+    let first = exponent(kind, span, exps, 3 * place + 1);
+    let second = exponent(kind, span, exps, 3 * place + 2);
+    let third = exponent(kind, span, exps, 3 * place + 3);
+    let high = 25 * difference(before, first) + 5 * difference(first, second);
+    (high + difference(second, third), third)
 }
 
 /// The spelling of a list of exponents that its kind can spell (A/52 7.1.3): a group is `25 * M1 + 5 * M2 + M3`, each M
@@ -116,9 +120,13 @@ pub fn group(kind: u8, span: &Span, exps: &[u8; 256]) -> Spelled
     ensures first { result.first ≤ 15 }
     ensures bound { (place : ℕ) → place < length result.groups → slice_index result.groups place ≤ 124 }
 {
-    let mut spelled = Spelled::new(first(span, exps));
+    let reference = first(span, exps);
+    let mut spelled = Spelled::new(reference);
+    let mut last = before(span.lead, reference);
     for place in 0..groups(kind, span) {
-        spelled.push(packed(kind, span, exps, usize::from(place)));
+        let (group, next) = packed(kind, span, exps, usize::from(place), last);
+        spelled.push(group);
+        last = next;
     }
     spelled
 }

@@ -15,7 +15,7 @@ mod steps;
 mod word;
 
 pub use ac_base::Run;
-pub use expanding::{BadExponent, expand};
+pub use expanding::{BadExponent, check, expand, sums_of};
 pub use grouping::group;
 pub use laws::{exponent_laws, word_laws};
 pub use lists::greatest;
