@@ -126,10 +126,10 @@ pub fn forward(g: &[i32; 256], out: &mut [[i64; 24]; 32])
     ensures bound { RowsWithin (2 ^ 29) 32 24 out.new }
 {
     let mut rows = [[0i32; 48]; 16];
-    spread(g, &mut rows);
     let mut even = [[0i32; 16]; 16];
-    halves(&rows, 0, &mut even);
     let mut odd = [[0i32; 16]; 16];
+    spread(g, &mut rows);
+    halves(&rows, 0, &mut even);
     halves(&rows, 1, &mut odd);
     for e in 0..16usize {
         out[e] = parts(&plus(&even[e], &odd[e]));

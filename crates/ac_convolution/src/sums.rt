@@ -94,13 +94,14 @@ pub fn negacyclic_correlation(
     requires table { IsTable h.now low.now high.now }
     ensures { Lists 256 (negacyclic (items g.now) (items h.now)) out.new }
 {
+    // all room before the first call: what is made behind one is zeroed twice
     let mut parts = [[0i64; 24]; 32];
-    forward(g, &mut parts);
     let mut q = [[0i64; 16]; 32];
     let mut x = [[0i64; 48]; 32];
     let mut first = [[0i64; 16]; 16];
-    half(&parts, low, &mut q, &mut x, &mut first);
     let mut second = [[0i64; 16]; 16];
+    forward(g, &mut parts);
+    half(&parts, low, &mut q, &mut x, &mut first);
     half(&parts, high, &mut q, &mut x, &mut second);
     join(&first, &second, out);
 }
