@@ -100,7 +100,7 @@ over-is offset board pot path partial part is are held p =
     let short = IsShort-path g path held.valid in
     let few = coded-few v.shape in
     let low : boundary_of path < 6 = short.boundary in
-    let place : 6 * partial.done + partial.at < 48 = omega (arith, held.done, held.at, short.channel, short.boundary, few) in
+    let place : 6 * partial.done + partial.at < 6 * channels v.shape + 6 = omega (arith, held.done, held.at, short.channel, short.boundary, few) in
     let same : 6 * channel_of path + boundary_of path ≡ 6 * partial.done + partial.at = omega (arith, held.done, held.at) in
     let limit = is.limits pot are (6 * partial.done + partial.at) place (channel_of path) (boundary_of path) part low p same in
     limit-test (g.room part) (g.base part) (spent g part path) (rest g pot part (channel_of path) (boundary_of path)) (slice_index (slice_index_or board.limits (6 * partial.done + partial.at) []) part) (slice_index partial.spent part) limit (held.right part p)

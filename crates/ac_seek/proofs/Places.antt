@@ -11,11 +11,16 @@ use Rattle.ac_mant.specs.declared.counts.Counts.{Counts}
 use Rattle.ac_cost.specs.Records.{AtOffset}
 use Rattle.ac_cost.specs.Runs.{IsRunOf}
 use Rattle.ac_cost.specs.Sixths.{part_of, run_sixths, sixths_by_part}
+use Rattle.ac_cost.proofs.Assigning.{coded-few}
 use Rattle.ac_bound.specs.Ways.{ArePots}
 use Rattle.ac_bound.proofs.Threes.{of_three}
 use Rattle.ac_seek.specs.declared.step.Step.{Step}
 use Rattle.ac_seek.specs.Boards.{place_of, HasCount, AreKnown, AreLimits}
 use Rattle.ac_seek.proofs.Ones.{rest-same}
+
+-- there are seven coded channels at most
+pub few_coded : (shape : Shape) → channels shape ≤ 7
+few_coded shape = coded-few shape
 
 -- the run of a place
 abbrev pub run_at : ℕ → Run

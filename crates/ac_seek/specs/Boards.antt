@@ -2,6 +2,7 @@
 use Rattle.std.specs.Prelude.{◌≡◌, ℕ, ◌+◌, ◌-◌, ◌*◌, ◌^◌, ◌<◌, ◌≤◌, List, [], ◌∷◌, length, slice_index, slice_index_or, Option, None, IfSome}
 use Rattle.ac_base.specs.declared.shapes.Shape.{Shape}
 use Rattle.ac_base.specs.Fit.{side_of, rooms_of}
+use Rattle.ac_expo.specs.Raw.{channels}
 use Rattle.ac_mant.specs.declared.counts.Counts.{Counts}
 use Rattle.ac_mant.specs.Counts.{tally}
 use Rattle.ac_cost.specs.Pointers.{run_tally}
@@ -11,6 +12,7 @@ use Rattle.ac_cost.specs.Runs.{IsRunOf}
 use Rattle.ac_cost.specs.Sixths.{part_of, run_sixths}
 use Rattle.ac_bound.specs.declared.bounds.Partial.{Partial}
 use Rattle.ac_bound.specs.Bounds.{IsPartial, rest_of}
+use Rattle.ac_bound.specs.Steps.{kinds_of}
 use Rattle.ac_bound.specs.Ways.{ArePots}
 use Rattle.ac_seek.specs.declared.step.Step.{Step}
 use Rattle.ac_seek.specs.declared.board.Board.{Board}
@@ -50,8 +52,9 @@ abbrev pub HasLimit : Shape → (ℕ → ℕ → ℕ → ℕ) → ℕ → List �
 HasLimit shape pot place row =
     (channel at part : ℕ) → at < 6 → part < 3 → 6 * channel + at ≡ place → slice_index row part ≡ limit_of shape pot channel at part
 
+-- at the boundaries of the coded channels, and behind the last
 abbrev pub AreLimits : Shape → (ℕ → ℕ → ℕ → ℕ) → List (List ℕ) → Type 0
-AreLimits shape pot limits = (place : ℕ) → place < 48 → HasLimit shape pot place (slice_index_or limits place [])
+AreLimits shape pot limits = (place : ℕ) → place < 6 * channels shape + 6 → HasLimit shape pot place (slice_index_or limits place [])
 
 -- all of it, at the offset of what tells the costs
 pub record IsBoard {C : Type 0} (offset : C → AtOffset) (board : Board C) : Type 0 where
@@ -59,6 +62,7 @@ pub record IsBoard {C : Type 0} (offset : C → AtOffset) (board : Board C) : Ty
   pub costs : AreCosts (offset board.table.now) board.costs
   pub small : AreSmall board.costs
   pub limits : (pot : ℕ → ℕ → ℕ → ℕ) → ArePots (offset board.table.now) pot → AreLimits (offset board.table.now).shape pot board.limits
+  pub kinds : (c : ℕ) → c < channels (offset board.table.now).shape → slice_index board.kinds c ≡ kinds_of (offset board.table.now).shape c
 
 -- the mantissas of the run of a place
 abbrev pub HasCount : AtOffset → ℕ → Counts → Type 0

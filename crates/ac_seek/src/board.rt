@@ -18,13 +18,15 @@ pub const PLACES: usize = 882;
 /// How many places there are for boundaries.
 const BOUNDARIES: usize = 48;
 
-/// The sixths of each run, and the least spent sixths that close a partial assignment at each boundary of a channel, in each part.
+/// The sixths of each run, the least spent sixths that close a partial assignment at each boundary of a channel, in each part, and
+/// the kinds of exponents of each coded channel.
 #[derive(Drop)]
 pub struct Board<'a, C> {
     pub shape: &'a Shape,
     pub table: &'a C,
     pub costs: [[u32; 3]; 882],
     pub limits: [[u64; 3]; 48],
+    pub kinds: [u8; 7],
 }
 
 /// The place of a run.
@@ -49,6 +51,17 @@ pub fn kinds(shape: &Shape, c: u8) -> u8
         Lead::Free | Lead::Coupled | Lead::Coupling => 3,
         Lead::Low => 1,
     }
+}
+
+/// Those of each coded channel.
+fn all_kinds(shape: &Shape) -> [u8; 7]
+    ensures { (c : ℕ) → c < channels shape.now → slice_index result c ≡ kinds_of shape.now c }
+{
+    let mut all = [0; 7];
+    for c in 0..shape.coded() {
+        all[usize::from(c)] = kinds(shape, c);
+    }
+    all
 }
 
 /// Whether a coded channel can have a run.
@@ -140,12 +153,13 @@ fn limit(shape: &Shape, pots: &Pots, place: usize) -> [u64; 3]
     ]
 }
 
-/// Those of all places.
+/// Those of the boundaries of all coded channels, and behind the last.
 fn limits(shape: &Shape, pots: &Pots) -> [[u64; 3]; 48]
     ensures { AreLimits shape.now (potential pots.now.p) result }
 {
     let mut limits = [[0; 3]; BOUNDARIES];
-    for place in 0..BOUNDARIES {
+    let coded = usize::from(shape.coded());
+    for place in 0..6 * coded + 6 {
         limits[place] = limit(shape, pots, place);
     }
     limits
@@ -164,6 +178,17 @@ impl<'a, C: RunCosts> Board<'a, C> {
             table,
             costs: costs(shape, table),
             limits: limits(shape, pots),
+            kinds: all_kinds(shape),
         }
     }
+}
+
+/// The kinds of exponents that a coded channel takes.
+#[tactic(auto, using(crate::proofs::Places::few_coded))]
+pub fn kinds_at<C: RunCosts>(board: &Board<C>, c: u8) -> u8
+    requires board { IsBoard C.offset board.now }
+    requires channel { c < channels (C.offset board.now.table.now).shape }
+    ensures { result ≡ kinds_of (C.offset board.now.table.now).shape c }
+{
+    board.kinds[usize::from(c)]
 }

@@ -8,7 +8,7 @@ ghost use Rattle.ac_seek.specs.Games.{IsNext, channel_of, boundary_of, channel_a
 ghost use Rattle.ac_seek.specs.Walks.{Holds, later_steps, laters, IsPassed, IsTurn};
 ghost use Rattle.ac_seek.specs.Words.{game_of, FitsHere};
 
-use crate::board::{Board, kinds, place};
+use crate::board::{Board, kinds_at, place};
 use crate::known::Known;
 use crate::path::Path;
 use crate::step::Step;
@@ -42,7 +42,7 @@ fn sibling<C: RunCosts>(board: &Board<C>, step: &Step) -> Option<Step>
     ensures fine { IfSome result (λ next. IsNext (game_of (C.offset board.now.table.now)) step.now.channel step.now.run.from next) }
 {
     let run = step.run;
-    if run.kind < kinds(board.shape, step.channel) {
+    if run.kind < kinds_at(board, step.channel) {
         Some(Step {
             channel: step.channel,
             run: Run {

@@ -1,5 +1,7 @@
-use Rattle.std.proofs.Common.{sym, subst}
+use Rattle.std.proofs.Common.{◌≡◌, ◌<◌, ℕ, slice_index, sym, subst}
 use Rattle.ac_base.specs.declared.shapes.Shape.{Shape}
+use Rattle.ac_expo.specs.Raw.{channels}
+use Rattle.ac_bound.specs.Steps.{kinds_of}
 use Rattle.ac_bound.specs.Ways.{potential}
 use Rattle.ac_seek.specs.Boards.{AreLimits}
 use Rattle.ac_seek.proofs.Places.{limits-any}
@@ -14,5 +16,6 @@ returns-clause-board g c =
       same = c.requires.same;
       costs = c.costs.ensures.value;
       small = c.costs.ensures.small;
+      kinds = subst (λ (shape : Shape). (d : ℕ) → d < channels shape → slice_index c.all_kinds.result d ≡ kinds_of shape d) (sym c.requires.same) c.all_kinds.ensures;
       limits = λ q also. limits-any v p q c.limits.result c.requires.potentials also limits;
     }
