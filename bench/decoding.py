@@ -15,7 +15,8 @@ def decode(program, folder, stream):
         with open(name, "wb") as file:
             file.write(data)
     try:
-        code = subprocess.run([program, "decode", *names], check=False, stdout=subprocess.DEVNULL, timeout=PATIENCE).returncode
+        run = subprocess.run([program, "decode", *names], check=False, stdout=subprocess.DEVNULL, stderr=subprocess.DEVNULL, timeout=PATIENCE)
+        code = run.returncode
     except subprocess.TimeoutExpired:
         code = "late"
     with open(names[1], "rb") as sound, open(names[2], errors="replace") as report:

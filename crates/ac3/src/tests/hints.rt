@@ -9,7 +9,7 @@ use std::test::Fail;
 /// The names in every test.
 const NAMED: Names<'static> = Names {
     from: "in",
-    to: "-",
+    to: "out",
     report: "log",
 };
 
@@ -41,7 +41,7 @@ fn a_status_in_words(rt: HostRuntime) -> Result<(), Fail> {
         ),
         (
             Status::WriteFault,
-            "standard output or log: a write failed: the device is full, or nobody reads the pipe",
+            "out or log: a write failed: the device is full, or nobody reads the pipe",
         ),
         (
             Status::NoMemory,
@@ -213,7 +213,7 @@ fn names_that_are_not_opened_in_words(rt: HostRuntime) -> Result<(), Fail> {
         ),
         (
             Reason::Refused(Unopened::Output(error)),
-            "-: can't be created: entity not found",
+            "out: can't be created: entity not found",
         ),
         (
             Reason::Refused(Unopened::Report(error)),
