@@ -1,6 +1,6 @@
 """Reads AC-3 frames as far as the scripts beside it want them, after A/52 5.3 and 5.4: heads and sizes, both CRC words, and block
-by block every field, with the exponents and the bit allocation that tell where the mantissas of a block end. It clears the dither
-flags of other encoders' frames and mends their CRC words.
+by block every field, with the exponents and the bit allocation that tell where the mantissas of a block end. It counts the bits of
+each kind, clears the dither flags of other encoders' frames and mends their CRC words.
 """
 from collections import Counter, namedtuple
 from functools import lru_cache
@@ -125,21 +125,27 @@ def pointers(lead, start, end, exponents, parameters, offset, silent):
 
 class Reader:
     """One frame's fields in their order. `dither` has the bit places of its dither flags, `coupled` the blocks with coupling,
-    `rematrixed` the blocks with a rematrix flag that is set."""
+    `rematrixed` the blocks with a rematrix flag that is set, `bits` how many bits are exponents, mantissas, skip bytes, what lies
+    unused before auxdatae, and side, which is all others; `ways` by channel the strategy of each block, 0 for reuse and None where
+    the channel isn't in the block; `sent` the SNR offset that the frame begins with."""
 
     def __init__(self, frame):
         self.number, self.length, self.at = int.from_bytes(frame, "big"), 8 * len(frame), 0
         self.dither, self.coupled, self.rematrixed = [], 0, 0
         self.in_coupling, self.phase, self.begin, self.last, self.bands, self.flags = [], 0, 0, 0, 0, 0
         self.ends, self.exponents, self.parameters, self.offsets = {}, {}, {}, {}
+        self.bits, self.kind, self.ways, self.sent = Counter(), "side", {}, None
         self.head()
         for block in range(BLOCKS):
             self.block(block)
         if self.at > self.length - 18:
             raise Unread("mantissas past the end")
+        self.bits["aux"] = self.length - 18 - self.at
+        self.bits["side"] += 18
 
     def take(self, width):
         self.at += width
+        self.bits[self.kind] += width
         if self.at > self.length:
             raise Unread("outofbits")
         return self.number >> self.length - self.at & (1 << width) - 1 if width else 0
@@ -177,9 +183,11 @@ class Reader:
         if self.acmod == 2 and take(1):
             self.flags = take(4 if not self.in_coupling or self.begin > 2 else 3 if self.begin else 2)
         self.rematrixed += self.flags > 0
-        self.strategies()
+        self.strategies(block)
         self.side()
+        self.kind = "mantissas"
         self.skip_mantissas()
+        self.kind = "side"
 
     def coupling(self):
         take = self.take
@@ -201,14 +209,17 @@ class Reader:
         if new and self.acmod == 2 and self.phase:
             self.take(self.bands)
 
-    def strategies(self):
+    def strategies(self, block):
         take = self.take
         together = take(2) if self.in_coupling else 0
         kinds = [take(2) for _ in range(self.full)]
         low = take(1) if self.lfe else 0
+        for channel, kind in zip(self.channels(), [together] * bool(self.in_coupling) + kinds + [low]):
+            self.ways.setdefault(channel, [None] * BLOCKS)[block] = kind
         for c, kind in enumerate(kinds):
             if kind and c not in self.in_coupling:
                 self.ends[c] = 37 + 3 * (take(6) + 12)
+        self.kind = "exponents"
         if together:
             self.new_exponents("coupling", together)
         for c, kind in enumerate(kinds):
@@ -217,6 +228,7 @@ class Reader:
                 take(2)
         if low:
             self.new_exponents("low", 1)
+        self.kind = "side"
 
     def span(self, channel):
         """The bins of a coded channel in this block: with coupling going on and off they can be fewer than its exponents."""
@@ -254,12 +266,16 @@ class Reader:
             self.coarse = take(6)
             for channel in self.channels():
                 self.offsets[channel] = take(4), take(3)
+            if self.sent is None:
+                self.sent = 16 * self.coarse + self.offsets[0][0]
         if self.in_coupling and take(1):
             self.parameters["cplfleak"], self.parameters["cplsleak"] = take(3), take(3)
         if take(1):
             raise Unread("delta")
         if take(1):
-            take(8 * take(9))
+            count = take(9)
+            self.kind = "skip"
+            take(8 * count)
 
     def skip_mantissas(self):
         counts = Counter()
