@@ -1,9 +1,9 @@
 //! The exponents of a block (A/52 7.1.3).
-ghost use Rattle.std.specs.Prelude.{◌≡◌, true, ℕ, ◌<◌, ◌≤◌, ◌+◌, ◌-◌, ◌*◌, [], Option, None, length, slice_index, slice_index_or};
+ghost use Rattle.std.specs.Prelude.{◌≡◌, true, ℕ, ◌<◌, ◌≤◌, ◌+◌, ◌-◌, ◌*◌, [], Option, None, slice_index, slice_index_or};
 ghost use Rattle.std.specs.Option.{ForSome};
 ghost use Rattle.ac_base.specs.Spans.{IsIn, IsKind, is_coupling};
 ghost use Rattle.ac_expo.specs.Steps.{step_of};
-ghost use Rattle.ac_expo.specs.Groups.{reference, mapped_of, sum_to, spelled_exponent};
+ghost use Rattle.ac_expo.specs.Groups.{spelled_exponent};
 ghost use Rattle.ac_alloc.specs.Integration.{AreExponents};
 ghost use Rattle.ac_rows.specs.HeadRows.{head_fields};
 ghost use Rattle.ac_rows.specs.BlockRows.{block_fields, AreLawful};
@@ -20,7 +20,7 @@ use crate::cells::put;
 use crate::channels::{coded, is_shared};
 use crate::kept::Kept;
 use ac_base::{Lead, Span};
-use ac_expo::Spelled;
+use ac_expo::{Spelled, sums_of};
 use ac_rows::{Block, Head, full_channels, holds, number};
 
 /// The exponents that the block `sent` sends of coded channel `c` of the filled block: their kind and groups.
@@ -64,47 +64,6 @@ fn held(
         kept = sent(head, filled, c, before).or(kept);
     }
     sent(head, filled, c, block).or(kept)
-}
-
-/// A difference plus 2, from its group.
-#[tactic(auto, unfolding(ac_expo::specs::Groups::mapped_of))]
-fn mapped(spelled: &Spelled, i: usize) -> u8
-    requires within { i < 3 * length spelled.now.groups }
-    requires bound { i < 252 }
-    ensures value { result ≡ mapped_of spelled.now.groups i }
-    ensures bound { result ≤ 10 }
-{
-    let group = spelled.group_at((i / 3) as u8);
-    match i % 3 {
-        0 => group / 25,
-        1 => group / 5 % 5,
-        _ => group % 5,
-    }
-}
-
-/// The exponent before the first difference.
-fn reference(lead: Lead, first: u8) -> u8
-    requires { first ≤ 15 }
-    ensures value { result ≡ reference lead first }
-    ensures bound { result ≤ 30 }
-{
-    match lead {
-        Lead::Coupling => 2 * first,
-        Lead::Free | Lead::Coupled | Lead::Low => first,
-    }
-}
-
-/// The reference and the first differences, each plus 2, up to each step.
-fn sums_of(lead: Lead, spelled: &Spelled) -> [u16; 256]
-    requires { spelled.now.first ≤ 15 }
-    ensures { (g : ℕ) → g ≤ 3 * length spelled.now.groups → slice_index result g ≡ sum_to lead spelled.now g }
-{
-    let mut sums = [0; 256];
-    sums[0] = u16::from(reference(lead, spelled.first()));
-    for i in 0..3 * usize::from(spelled.len()) {
-        sums[i + 1] = sums[i] + u16::from(mapped(spelled, i));
-    }
-    sums
 }
 
 /// Whether it is the coupling channel.

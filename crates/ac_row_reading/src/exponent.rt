@@ -9,7 +9,7 @@ use ac_base::Span;
 use ac_bits::BitSource;
 use ac_codec::Refused;
 use ac_codec::read::small;
-use ac_expo::{Spelled, expand, groups};
+use ac_expo::{Spelled, check, groups};
 
 /// A first exponent and `count` groups.
 fn take_spelled(source: &mut BitSource, count: u8) -> Result<Spelled, Refused>
@@ -55,7 +55,7 @@ pub fn read_spelled(
     }
     let before = source.copy();
     let spelled = whole_spelled(source, count);
-    match expand(kind, span, &spelled, &mut [0; 256]) {
+    match check(kind, span, &spelled) {
         Ok(()) => Ok(spelled),
         Err(bad) => {
             *source = before;

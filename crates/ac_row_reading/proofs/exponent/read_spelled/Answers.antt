@@ -10,13 +10,13 @@ returns-then-left-from c =
 pub whole_spelled-spelled-requires-clause-enough : goal.whole_spelled-spelled-requires-clause-enough
 whole_spelled-spelled-requires-clause-enough c = omega (arith, c.if-left-from.false, c.left.ensures, c.from.ensures)
 
-pub expand-requires-clause-count : goal.expand-requires-clause-count
-expand-requires-clause-count c =
+pub check-requires-clause-count : goal.check-requires-clause-count
+check-requires-clause-count c =
     (read_lawful c.groups-count.result c.args.source.now c.whole_spelled-spelled.new.source c.whole_spelled-spelled.result
     c.whole_spelled-spelled.ensures).1 ∙ c.groups-count.ensures.value
 
-pub expand-requires-clause-first : goal.expand-requires-clause-first
-expand-requires-clause-first c =
+pub check-requires-clause-first : goal.check-requires-clause-first
+check-requires-clause-first c =
     let r =
     read_lawful c.groups-count.result c.args.source.now c.whole_spelled-spelled.new.source c.whole_spelled-spelled.result
     c.whole_spelled-spelled.ensures in
