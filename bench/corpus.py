@@ -201,8 +201,8 @@ def wav(sound, rows):
         data = struct.pack(f"<{len(row)}i", *row)
         for place in range(width):
             pcm[width * c + place :: size] = data[place::4]
-    form = struct.pack("<HHIIHHHHI", 0xFFFE, channels, sound.sampling, size * sound.sampling, size, sound.bits, 22, sound.bits, sound.mask)
-    form += bytes.fromhex("0100000000001000800000aa00389b71")
+    form = struct.pack("<HHIIHH", 0xFFFE, channels, sound.sampling, size * sound.sampling, size, sound.bits)
+    form += struct.pack("<HHI", 22, sound.bits, sound.mask) + bytes.fromhex("0100000000001000800000aa00389b71")
     pad = b"\0" * (len(pcm) % 2)
     head = b"WAVEfmt " + struct.pack("<I", len(form)) + form + b"data" + struct.pack("<I", len(pcm))
     return b"RIFF" + struct.pack("<I", len(head) + len(pcm) + len(pad)) + head + pcm + pad

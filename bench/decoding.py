@@ -11,14 +11,14 @@ HEAD = 68  # bytes of a WAV's head
 CHECKED = ["-err_detect", "crccheck+bitstream+buffer+explode", "-drc_scale", "0"]  # of ffmpeg
 
 
-def decode(program, folder, stream):
+def decode(program, folder, stream, patience=PATIENCE):
     """The exit code (or `late`, after half a minute), the report's lines and the WAV's bytes."""
     names = [os.path.join(folder, name) for name in ("decoded.ac3", "decoded.wav", "decoded.txt")]
     for name, data in zip(names, (stream, b"", b"")):
         with open(name, "wb") as file:
             file.write(data)
     try:
-        run = subprocess.run([program, "decode", *names], check=False, stdout=subprocess.DEVNULL, stderr=subprocess.DEVNULL, timeout=PATIENCE)
+        run = subprocess.run([program, "decode", *names], check=False, stdout=subprocess.DEVNULL, stderr=subprocess.DEVNULL, timeout=patience)
         code = run.returncode
     except subprocess.TimeoutExpired:
         code = "late"
