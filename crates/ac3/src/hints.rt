@@ -285,14 +285,26 @@ fn unopened_hint<W: fmt::Write>(
     }
 }
 
+/// Two of the names mean one file.
+fn one_file_hint<W: fmt::Write>(f: &mut fmt::Formatter<W>, named: Names<'_>) -> fmt::Result {
+    let input = input_name(named.from);
+    let output = output_name(named.to);
+    if named.report == "-" {
+        return write!(f, "{input} and {output} mean one file: nothing was opened");
+    }
+    let report = named.report;
+    write!(
+        f,
+        "two of {input}, {output} and {report} mean one file: nothing was opened"
+    )
+}
+
 impl fmt::Display for Hint<'_> {
     fn fmt<W: fmt::Write>(&self, f: &mut fmt::Formatter<W>) -> fmt::Result {
         match self.reason {
             Reason::Ended(status) => status_hint(f, self.named, status),
             Reason::Refused(unopened) => unopened_hint(f, self.named, unopened),
-            Reason::OneFile => f.write_str(
-                "two of the three names mean one file: nothing was opened",
-            ),
+            Reason::OneFile => one_file_hint(f, self.named),
             Reason::Unsaid => f.write_str("standard output: the status line couldn't be printed"),
         }
     }

@@ -221,7 +221,7 @@ fn names_that_are_not_opened_in_words(rt: HostRuntime) -> Result<(), Fail> {
         ),
         (
             Reason::OneFile,
-            "two of the three names mean one file: nothing was opened",
+            "two of in, out and log mean one file: nothing was opened",
         ),
         (
             Reason::Unsaid,
