@@ -36,11 +36,11 @@ log_power h below =
       | inr opposite ↦ inr (eqb-true _ _ opposite)
     ]
 
-forward_below : (b : ℕ) → b < 256 → forward_pick b < 256
+pub forward_below : (b : ℕ) → b < 256 → forward_pick b < 256
 unfolding forward_pick
 forward_below b below = ltb-true _ _ (all_below-at 256 (λ k. nat_lt (forward_pick k) 256) refl b below)
 
-inverse_below : (b : ℕ) → b < 256 → inverse_pick b < 256
+pub inverse_below : (b : ℕ) → b < 256 → inverse_pick b < 256
 unfolding inverse_pick
 inverse_below b below = ltb-true _ _ (all_below-at 256 (λ k. nat_lt (inverse_pick k) 256) refl b below)
 

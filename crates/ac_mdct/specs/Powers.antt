@@ -19,9 +19,16 @@ inverse_pick b = slice_index INVERSE b
 unfoldable pub turned_by : ℕ → ℤ → ℤ
 turned_by e u = if nat_lt e 256 then u else neg_ℤ u
 
+-- folded value i, and coefficient k, with the sign at its logarithm
+abbrev pub forward_turned : List ℤ → ℕ → ℤ
+forward_turned u i = turned_by (log_of (place i + 128)) (slice_index_or u i (pos 0))
+
+abbrev pub inverse_turned : List ℤ → ℕ → ℤ
+inverse_turned u k = turned_by (log_of k) (slice_index_or u k (pos 0))
+
 -- the folded values, and the coefficients, in the order of their logarithms
 abbrev pub forward_spun : List ℤ → ℕ → ℤ
-forward_spun u b = turned_by (log_of (place (forward_pick b) + 128)) (slice_index_or u (forward_pick b) (pos 0))
+forward_spun u b = forward_turned u (forward_pick b)
 
 abbrev pub inverse_spun : List ℤ → ℕ → ℤ
-inverse_spun u b = turned_by (log_of (inverse_pick b)) (slice_index_or u (inverse_pick b) (pos 0))
+inverse_spun u b = inverse_turned u (inverse_pick b)

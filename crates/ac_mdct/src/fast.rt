@@ -22,13 +22,14 @@ pub fn forward(prev: &[i32; 256], now: &[i32; 256], out: &mut [i32; 256])
     ensures value { IsForward prev.now now.now out.new }
     ensures bound { Within (2 ^ 24 - 1) 256 out.new }
 {
+    // all room before the first call: what is made behind one is zeroed twice
     let mut v = [0i32; 512];
-    windowed(prev, now, &mut v);
     let mut u = [0i32; 256];
-    fold(&v, &mut u);
     let mut w = [0i32; 256];
-    spin_forward(&u, &mut w);
     let mut sums = [0i64; 256];
+    windowed(prev, now, &mut v);
+    fold(&v, &mut u);
+    spin_forward(&u, &mut w);
     ac_cosine_sums::cosine_sums(&w, &mut sums);
     for k in 0..256usize {
         out[k] = coefficient_of(power_sum(&sums, &w, log(k)));
@@ -42,8 +43,8 @@ fn inverse_sums(coefs: &[i32; 256], out: &mut [i64; 256])
     ensures bound { Within (2 ^ 62) 256 out.new }
 {
     let mut w = [0i32; 256];
-    spin_inverse(coefs, &mut w);
     let mut sums = [0i64; 256];
+    spin_inverse(coefs, &mut w);
     ac_cosine_sums::cosine_sums(&w, &mut sums);
     for i in 0..256usize {
         out[i] = power_sum(&sums, &w, log(place_of(i as u8) + 128));

@@ -3,7 +3,7 @@
 ghost use Rattle.std.specs.Prelude.{◌≡◌, ◌<◌, ◌≤◌, ◌^◌, ◌+◌, ◌*◌, ◌%◌, ◌*ℤ◌, ℤ, pos, neg_ℤ, unsigned_abs, slice_index_or};
 ghost use Rattle.ac_base.specs.Sigma.{Within, sigma};
 ghost use Rattle.ac_base.specs.Cosine.{cosine_at};
-ghost use Rattle.ac_mdct.specs.Powers.{log_of, forward_pick, inverse_pick, turned_by, forward_spun, inverse_spun};
+ghost use Rattle.ac_mdct.specs.Powers.{log_of, forward_pick, inverse_pick, turned_by, forward_turned, inverse_turned, forward_spun, inverse_spun};
 ghost use Rattle.ac_base.specs.Sigma.{Lists};
 ghost use Rattle.ac_mdct.specs.Place.{place};
 
@@ -138,28 +138,72 @@ fn turned(e: usize, u: i32) -> i32
     if e < 256 { u } else { -u }
 }
 
-/// The folded value at logarithm `b`, with its sign.
+/// The place that folded value `i` stands for, as `place_of` has it.
 #[inline]
-fn forward_item(u: &[i32; 256], b: usize) -> i32
-    requires bound { Within (2 ^ 24) 256 u.now }
-    requires place { b < 256 }
-    ensures value { result ≡ forward_spun u.now b }
-    ensures bound { unsigned_abs result ≤ 2 ^ 24 }
+#[tactic(auto, unfolding(crate::specs::Place::place))]
+fn place_at(i: usize) -> usize
+    requires { i < 256 }
+    ensures value { result ≡ place i }
+    ensures bound { result < 384 }
 {
-    let i = forward_entry(b);
-    turned(log(place_of(i) + 128), u[i as usize])
+    if i < 128 { i } else { i + 128 }
 }
 
-/// The coefficient at logarithm `b`, with its sign.
+/// Folded value `i`, with the sign at its logarithm.
 #[inline]
-fn inverse_item(u: &[i32; 256], b: usize) -> i32
+fn forward_signed(u: &[i32; 256], i: usize) -> i32
     requires bound { Within (2 ^ 24) 256 u.now }
-    requires place { b < 256 }
-    ensures value { result ≡ inverse_spun u.now b }
+    requires place { i < 256 }
+    ensures value { result ≡ forward_turned u.now i }
     ensures bound { unsigned_abs result ≤ 2 ^ 24 }
 {
-    let i = inverse_entry(b);
-    turned(log(usize::from(i)), u[i as usize])
+    turned(log(place_at(i) + 128), u[i])
+}
+
+/// Coefficient `k`, with the sign at its logarithm.
+#[inline]
+fn inverse_signed(u: &[i32; 256], k: usize) -> i32
+    requires bound { Within (2 ^ 24) 256 u.now }
+    requires place { k < 256 }
+    ensures value { result ≡ inverse_turned u.now k }
+    ensures bound { unsigned_abs result ≤ 2 ^ 24 }
+{
+    turned(log(k), u[k])
+}
+
+/// The folded values with their signs, in their own order, so that the compiler makes lanes of both loops.
+fn forward_signs(u: &[i32; 256], out: &mut [i32; 256])
+    requires { Within (2 ^ 24) 256 u.now }
+    ensures value { Lists 256 (forward_turned u.now) out.new }
+    ensures bound { Within (2 ^ 24) 256 out.new }
+{
+    for i in 0..128usize {
+        out[i] = forward_signed(u, i);
+    }
+    for j in 128..256usize {
+        out[j] = forward_signed(u, j);
+    }
+}
+
+/// The coefficients with their signs, in their own order.
+fn inverse_signs(u: &[i32; 256], out: &mut [i32; 256])
+    requires { Within (2 ^ 24) 256 u.now }
+    ensures value { Lists 256 (inverse_turned u.now) out.new }
+    ensures bound { Within (2 ^ 24) 256 out.new }
+{
+    for k in 0..256usize {
+        out[k] = inverse_signed(u, k);
+    }
+}
+
+/// Number `i` of those that have their signs.
+#[inline]
+fn picked(signed: &[i32; 256], i: u8) -> i32
+    requires { Within (2 ^ 24) 256 signed.now }
+    ensures value { result ≡ slice_index_or signed.now i (pos 0) }
+    ensures bound { unsigned_abs result ≤ 2 ^ 24 }
+{
+    signed[usize::from(i)]
 }
 
 /// The folded values in the order of their logarithms.
@@ -168,8 +212,10 @@ pub fn spin_forward(u: &[i32; 256], out: &mut [i32; 256])
     ensures value { Lists 256 (forward_spun u.now) out.new }
     ensures bound { Within (2 ^ 24) 256 out.new }
 {
-    for b in 0..256 {
-        out[b] = forward_item(u, b);
+    let mut signed = [0i32; 256];
+    forward_signs(u, &mut signed);
+    for b in 0..256usize {
+        out[b] = picked(&signed, forward_entry(b));
     }
 }
 
@@ -179,8 +225,10 @@ pub fn spin_inverse(u: &[i32; 256], out: &mut [i32; 256])
     ensures value { Lists 256 (inverse_spun u.now) out.new }
     ensures bound { Within (2 ^ 24) 256 out.new }
 {
-    for b in 0..256 {
-        out[b] = inverse_item(u, b);
+    let mut signed = [0i32; 256];
+    inverse_signs(u, &mut signed);
+    for b in 0..256usize {
+        out[b] = picked(&signed, inverse_entry(b));
     }
 }
 
