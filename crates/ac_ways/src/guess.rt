@@ -6,7 +6,6 @@ ghost use Rattle.ac_bound.specs.Steps.{kinds_of};
 use crate::bracket::Bracket;
 use crate::kinds::Kinds;
 use ac_base::{Run, Shape, rooms, side_bits};
-use ac_mant::sixths;
 use ac_windows::RunRows;
 
 /// What a coded channel costs at an offset with one list of a kind for all blocks, in sixths of a bit.
@@ -22,7 +21,9 @@ fn whole(shape: &Shape, rows: &RunRows, t: u16, c: u8, kind: u8, bits: u32) -> u
         to: 6,
         kind,
     };
-    6 * u64::from(bits) + 6 * u64::from(sixths(&rows.counts(t, c, &run)))
+    let first = t.min(1008);
+    let six = rows.run_window(first, c, &run)[usize::from(t - first)];
+    6 * u64::from(bits) + 6 * u64::from(six)
 }
 
 /// The lesser cost of its finest and its coarsest list.

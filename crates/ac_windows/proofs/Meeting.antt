@@ -1,5 +1,5 @@
 -- What is held of a run beside what it costs.
-use Rattle.std.proofs.Common.{◌≡◌, ℕ, zero, suc, ◌+◌, ◌-◌, ◌<◌, ◌≤◌, List, [], slice_index, slice_index_or, refl, sym, ap, ap₂, ◌∙◌, subst, arith}
+use Rattle.std.proofs.Common.{◌≡◌, ℕ, zero, suc, ◌+◌, ◌-◌, ◌/◌, ◌<◌, ◌≤◌, List, [], slice_index, slice_index_or, refl, sym, ap, ap₂, ◌∙◌, subst, arith}
 use Rattle.std.specs.Prelude.{◌==◌}
 use Rattle.std.proofs.lemmas.Bool.{ne_eqb, cond-false}
 use Rattle.ac_base.specs.declared.runs.Run.{Run}
@@ -24,7 +24,7 @@ use Rattle.ac_cost.proofs.Listing.{run_back, row_below}
 use Rattle.ac_cost.proofs.Pricing.{run_bap-silent, run_bap-heard, run_bap-small}
 use Rattle.ac_cost.proofs.Tallying.{bins_none, bins_more, bins_same}
 use Rattle.ac_sixths.specs.Keys.{weight}
-use Rattle.ac_sixths.specs.Runs.{column, IsRun, total_from, total_over, span_sixths}
+use Rattle.ac_sixths.specs.Runs.{column, AreHeld, IsRun, total_from, total_over, span_sixths}
 use Rattle.ac_sixths.proofs.Keyed.{baps_are_by_key, index_is, weights_are_sixths}
 use Rattle.ac_sixths.proofs.Meanings.{none_at}
 use Rattle.ac_windows.specs.Held.{IsHeld}
@@ -81,6 +81,23 @@ row_meets_at shape raw t0 c span count levels bases six es ec held rows =
     let F : Span → Type 0 = λ s. (l : ℕ) → 0 ≤ l → l < count → (p : Params) (exps : List ℕ) → IsRun p s exps (slice_index_or levels l []) (column bases l) → (j : ℕ) → j < 16 → slice_index (slice_index_or six l []) j ≡ span_sixths p s exps (t0 + j) in
     let all : F (channel_span shape c) = subst F es rows in
     row_meets shape raw t0 c levels bases six held (λ l below. all l (omega arith) (omega (arith, ec, below)))
+
+-- what is held of a run's row is as its kind asks
+pub row_held : (shape : Shape) (raw : List (List (List ℕ))) (c : ℕ) (run : Run) (row : ℕ) (span : Span) (levels bases : List (List ℕ)) → IsHeld shape raw c levels bases → IsRunOf shape c run → row ≡ row_of run → span ≡ channel_span shape c → AreHeld (row / 21 + 1) span (slice_index_or levels row []) (column bases row)
+row_held shape raw c run row span levels bases held is er es =
+    let below = row_below shape c run is in
+    subst (λ (x : Span). AreHeld (row / 21 + 1) x (slice_index_or levels row []) (column bases row)) (sym es)
+    (held row (omega (arith, er, below))).small
+
+-- the sixths of one run
+pub run_meets : (shape : Shape) (raw : List (List (List ℕ))) (t0 c : ℕ) (run : Run) (row : ℕ) (span : Span) (levels bases : List (List ℕ)) (six : List ℕ) → IsHeld shape raw c levels bases → IsRunOf shape c run → row ≡ row_of run → span ≡ channel_span shape c → ((p : Params) (exps : List ℕ) → IsRun p span exps (slice_index_or levels row []) (column bases row) → (j : ℕ) → j < 16 → slice_index six j ≡ span_sixths p span exps (t0 + j)) → (j : ℕ) → j < 16 → slice_index six j ≡ block_sixths shape raw (t0 + j) c run
+run_meets shape raw t0 c run row span levels bases six held is er es sums j l =
+    let F : Span → Type 0 = λ s. (p : Params) (exps : List ℕ) → IsRun p s exps (slice_index_or levels row []) (column bases row) → (j : ℕ) → j < 16 → slice_index six j ≡ span_sixths p s exps (t0 + j) in
+    let all : F (channel_span shape c) = subst F es sums in
+    let p = encoder_params shape.fscod shape.sampling in
+    let below : row < rows_of (channel_span shape c).lead = omega (arith, er, row_below shape c run is) in
+    let same : run_of row ≡ run = ap run_of er ∙ run_back run is.is_run in
+    all p (run_exps shape raw c (run_of row)) (held row below).run j l ∙ sixths_meet shape raw (t0 + j) c (run_of row) ∙ ap (block_sixths shape raw (t0 + j) c) same
 
 -- ---- pointers
 pointer_meets : (p : Params) (s : Span) (exps levels bases : List ℕ) (t k : ℕ) → IsRun p s exps levels bases → t ≤ 1023 → s.start ≤ k → k < s.end → pointer_of levels bases t k ≡ bap_at p s exps k t

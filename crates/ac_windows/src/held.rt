@@ -1,5 +1,5 @@
 //! The runs of a frame, held so that what they cost is read off a table.
-ghost use Rattle.std.specs.Prelude.{◌≡◌, ◌≤◌, ◌<◌, ℕ, slice_index_or};
+ghost use Rattle.std.specs.Prelude.{◌≡◌, ◌≤◌, ◌<◌, ◌+◌, ℕ, slice_index, slice_index_or};
 ghost use Rattle.ac_cost.specs.Records.{exponents};
 ghost use Rattle.ac_expo.specs.Raw.{channels};
 ghost use Rattle.ac_cost.specs.Pointers.{run_tally};
@@ -9,7 +9,7 @@ ghost use Rattle.ac_mant.specs.Counts.{tally};
 ghost use Rattle.ac_masks.specs.Adding.{IsAddTable};
 ghost use Rattle.ac_windows.specs.Held.{IsHeld};
 ghost use Rattle.ac_windows.specs.Seen.{no_rows};
-ghost use Rattle.ac_windows.specs.Windows.{IsWindow};
+ghost use Rattle.ac_windows.specs.Windows.{IsWindow, block_sixths};
 
 use crate::channel::{ChannelRows, hold_channel};
 use crate::counted::count_row;
@@ -19,7 +19,7 @@ use ac_cost::{row, row_count};
 use ac_expo::RawExps;
 use ac_mant::Counts;
 use ac_masks::AddTable;
-use ac_sixths::{SixthTable, row_windows};
+use ac_sixths::{SixthTable, kind_windows, row_windows};
 use std::marker::Model;
 
 /// No mantissas.
@@ -114,6 +114,28 @@ impl RunRows {
                 &mut out.six[c as usize],
             );
         }
+    }
+
+    /// What those of one run cost in a block, in sixths of a bit, at these offsets.
+    pub fn run_window(&self, t0: u16, channel: u8, run: &Run) -> [u16; 16]
+        requires t0 { t0 ≤ 1008 }
+        requires run { IsRunOf self.now.shape channel run.now }
+        ensures value { (j : ℕ) → j < 16
+            → slice_index result j ≡ block_sixths self.now.shape self.now.raw (t0 + j) channel run.now }
+    {
+        let span = self.shape.span(channel);
+        let rows = &self.of[channel as usize];
+        let at = row(run);
+        let kind = (at / 21) as u8 + 1;
+        kind_windows(
+            &self.table,
+            &span,
+            kind,
+            &rows.levels[at],
+            &rows.bases,
+            at,
+            t0,
+        )
     }
 
     /// The mantissas of a run of a coded channel in one of its blocks at an offset t (A/52 7.3.5).
