@@ -5,7 +5,7 @@ use Rattle.std.proofs.lemmas.List.{take-append-le, drop-append-le, drop-drop, ta
 use Rattle.std.specs.Prelude.{nat_le}
 use Rattle.std.proofs.lemmas.Bool.{leb-true}
 use Rattle.std.proofs.lemmas.Grind.{common_steps}
-use Rattle.ac_io.specs.Outside.{Rose, Adds, AddsFront}
+use Rattle.ac_io.specs.Outside.{Adds, AddsFront}
 use Rattle.ac_io.proofs.Written.{adds_both}
 use Rattle.ac_cert_print.specs.Pages.{Page, Goes, Stops, Moves, Wrote}
 

@@ -34,6 +34,7 @@ fn lines<O: Sink>(pen: &mut Pen, out: &mut O, cert: &Cert)
 }
 
 /// Writes the text that stands for a certificate, which has at most an offset for each from its top down to 0. No memory is taken.
+/// The text of a tree with an empty split, or with a bracket more than 42 open at once, is none that `ac_cert_text::parse` reads.
 ///
 /// # Errors
 ///

@@ -1,4 +1,4 @@
-use Rattle.std.proofs.Common.{ℕ, ◌+◌, List, Option, ap, sym, ◌∙◌}
+use Rattle.std.proofs.Common.{ℕ, ◌+◌, Option, ap, sym}
 use Rattle.std.specs.Prelude.{option_map}
 use Rattle.ac_bound.specs.declared.pots.Pots.{Pots}
 use Rattle.ac_cert_text.specs.Codec.{absent, present, fork, pair}

@@ -1,4 +1,4 @@
-use Rattle.std.proofs.Common.{length, arith}
+use Rattle.std.proofs.Common.{arith}
 use Rattle.ac_cert_text.specs.Text.{pot_line}
 use Rattle.ac_cert_print.specs.Pages.{page}
 use Rattle.ac_cert_print.proofs.Spelling.{at_first, one_piece, at_last}

@@ -1,6 +1,4 @@
-use Rattle.std.proofs.Common.{ap, sym, ◌∙◌, List, ℕ}
 use Rattle.std.specs.Prelude.{nat_lt}
-use Rattle.ac_base.specs.declared.spans.Span.{Span}
 use Rattle.ac_cert_text.specs.Codec.{each}
 use Rattle.ac_cert_text.specs.Text.{fields_of, coded, no_pots, pot_line, pot_lines}
 use Rattle.ac_cert_print.specs.Pages.{page}

@@ -1,4 +1,4 @@
-use Rattle.std.proofs.Common.{ap, sym, ◌∙◌}
+use Rattle.std.proofs.Common.{sym, ◌∙◌}
 use Rattle.ac_cert_text.specs.Codec.{number}
 use Rattle.ac_cert_text.specs.Text.{end_at, is_in, bin}
 use Rattle.ac_cert_print.specs.Pages.{page}

@@ -1,4 +1,4 @@
-use Rattle.std.proofs.Common.{length, arith, refl}
+use Rattle.std.proofs.Common.{arith, refl}
 use Rattle.ac_cert_text.specs.Text.{bin, row}
 use Rattle.ac_cert_print.specs.Pages.{page}
 use Rattle.ac_cert_print.proofs.Spelling.{at_first, one_piece, at_last}

@@ -1,4 +1,4 @@
-use Rattle.std.proofs.Common.{List, subst, sym}
+use Rattle.std.proofs.Common.{List, subst}
 use Rattle.ac_claim.specs.declared.certs.Level.{Level}
 use Rattle.std.specs.Prelude.{option_map}
 use Rattle.ac_cert_text.specs.Codec.{after, pair}

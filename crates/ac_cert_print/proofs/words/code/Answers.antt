@@ -1,4 +1,4 @@
-use Rattle.std.proofs.Common.{List, ℕ, [], ◌∷◌, ◌++◌, ap, sym}
+use Rattle.std.proofs.Common.{ℕ, [], ◌∷◌, ◌++◌, ap, sym}
 use Rattle.std.specs.Fmt.{decimal}
 use Rattle.ac_cert_text.specs.Codec.{number}
 use Rattle.ac_cert_text.specs.Text.{code}

@@ -1,4 +1,4 @@
-use Rattle.std.proofs.Common.{take, List, ℕ, ap, sym, subst}
+use Rattle.std.proofs.Common.{List, ℕ, sym, subst}
 use Rattle.std.proofs.lemmas.List.{take_more, take_all}
 use Rattle.ac_cert_print.specs.Pages.{page, Wrote}
 use Rattle.ac_cert_print.proofs.Writing.{then, nothing}
