@@ -1,0 +1,4 @@
+pub mod Ends
+pub mod Nodes
+pub mod Spelling
+pub mod Writing

@@ -1,0 +1,10 @@
+use Rattle.std.proofs.Common.{ℕ, [], ◌∷◌, ◌++◌, ap, sym}
+use Rattle.std.specs.Fmt.{decimal}
+use Rattle.ac_cert_text.specs.Codec.{number}
+use Rattle.ac_cert_text.specs.Text.{potential}
+use Rattle.ac_cert_print.proofs.Spelling.{same}
+use Rattle.ac_cert_print.proofs.pots.potential.Goals as goal
+
+pub returns : goal.returns
+unfolding potential number
+returns g c = same (ap (λ (e : ℕ). decimal c.args.entry ++ e ∷ []) (sym c.end_at.ensures)) c.large.ensures

@@ -1,0 +1,9 @@
+use Rattle.std.proofs.Common.{take}
+use Rattle.ac_cert_text.specs.Codec.{each}
+use Rattle.ac_cert_text.specs.Text.{raw_line}
+use Rattle.ac_cert_print.specs.Pages.{page, Wrote}
+use Rattle.ac_cert_print.proofs.raws.blocks.Given as goal
+
+abbrev pub invariant-loop-b : goal.invariant-loop-b
+invariant-loop-b g l =
+    Wrote ((each 6 0 (raw_line l.fn.span l.fn.c)).spell (take l.b l.fn.rows)) (page g.O.Sink.held g.O.Sink.faults l.fn.pen l.fn.out) (page g.O.Sink.held g.O.Sink.faults l.pen l.out)

@@ -1,0 +1,8 @@
+use Rattle.ac_cert_text.specs.Codec.{after}
+use Rattle.ac_cert_text.specs.Text.{raw_line}
+use Rattle.ac_cert_print.proofs.Writing.{then}
+use Rattle.ac_cert_print.proofs.raws.raw_line.Goals as goal
+
+pub returns : goal.returns
+unfolding raw_line after
+returns g c = then c.word.ensures (then c.place.ensures (then c.word-2.ensures (then c.place-2.ensures (then c.word-3.ensures c.row.ensures))))
