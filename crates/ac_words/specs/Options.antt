@@ -1,5 +1,5 @@
 -- A command with plain options, as clap reads it: each has a long name, takes one value, and is required or not.
-use Rattle.std.specs.Prelude.{◌≡◌, Bool, codes, List, [], ◌∷◌, ◌&&◌, ◌||◌, not, true, Some, None, map, if◌then◌else◌}
+use Rattle.std.specs.Prelude.{◌≡◌, Bool, codes, List, [], ◌∷◌, ◌&&◌, not, true, Some, None, map, if◌then◌else◌}
 use Rattle.std.specs.List.{list_any}
 use Rattle.clap.specs.Words.{App, Rule, Row, Shape, new_rule}
 use Rattle.clap.specs.Simple.{new_shape}
