@@ -1,15 +1,18 @@
 -- From what was asked for to how the program ends.
 use Rattle.std.proofs.Common.{◌≡◌, ◌⊎◌, ◌∷◌, ◌++◌, false, List, [], Option, Result, Ok, Err, inl, inr, refl, sym, subst}
 use Rattle.std.specs.Prelude.{MatchResult}
-use Rattle.ac_words.specs.Grammar.{Text, LastWords}
+use Rattle.ac_words.specs.Grammar.{Text, LastWords, InGrammar}
 use Rattle.ac_words.specs.Asked.{GivesNames}
+use Rattle.ac_words.specs.declared.fault.WordsFault.{WordsFault}
+use Rattle.ac_words.specs.declared.fault.WordsFault.TheVariants.{Usage, NoMemory}
+use Rattle.ac_status.specs.Lines.{status_line}
 use Rattle.ac_world.specs.World.{World}
 use Rattle.ac3.specs.declared.perform.Answers.{Answers}
 use Rattle.ac3.specs.declared.perform.Ended.{Ended}
-use Rattle.ac3.specs.declared.perform.Ended.TheVariants.{OpenFault, Unsaid}
-use Rattle.ac3.specs.Codes.{open_fault_line}
+use Rattle.ac3.specs.declared.perform.Ended.TheVariants.{NoWords, OpenFault, Unsaid}
+use Rattle.ac3.specs.Codes.{open_fault_line, status_of_words}
 use Rattle.ac3.specs.Deeds.{Deed, Did, said, unsaid, all_compared, all_given, is_shared, AllGiven, Refused, Stopped, not_given}
-use Rattle.ac3.specs.Ends.{IfOpenFault, IfUnsaid, StopsAt, HasUnsaid}
+use Rattle.ac3.specs.Ends.{IfNoWords, IfOpenFault, IfUnsaid, StopsAt, HasNoWords, HasUnsaid}
 use Rattle.ac3.proofs.Deeds.{did_then}
 
 -- what is opened behind the comparisons
@@ -40,3 +43,29 @@ pub fault_unsaid : {S O N : Type 0} → (ws : List Text) (n : LastWords) (start 
 fault_unsaid ws n start mid end result named o (inl h) = subst (λ (r : Ended _ _ _). IfUnsaid r (HasUnsaid ws start end)) (sym h.0) tt
 fault_unsaid ws n start mid end result named o (inr h) =
     subst (λ (r : Ended _ _ _). IfUnsaid r (HasUnsaid ws start end)) (sym h.0) (inl (stops ws n start mid end (unsaid open_fault_line) named o h.1))
+
+-- ---- no words to follow
+
+no_words : (ws : List Text) (fault : WordsFault) (last : Deed) (start end : Option (List Deed)) → (fault ≡ Usage → InGrammar ws → ⊥) → Did start end (last ∷ []) → HasNoWords ws fault last start end
+no_words ws Usage last start end outside d = record { no_meaning = outside refl; did = d }
+no_words ws NoMemory last start end outside d = d
+
+-- how the line that says why was printed, or not
+abbrev Refusal : {S O N : Type 0} → Ended S O N → WordsFault → Option (List Deed) → Option (List Deed) → Type 0
+Refusal result fault start end = ((result ≡ NoWords fault) × Did start end (said (status_line (status_of_words fault)) ∷ []))
+    ⊎ ((result ≡ Unsaid) × Did start end (unsaid (status_line (status_of_words fault)) ∷ []))
+
+pub words_said : {S O N : Type 0} → (ws : List Text) (fault : WordsFault) (start end : Option (List Deed)) (result : Ended S O N) → (fault ≡ Usage → InGrammar ws → ⊥) → Refusal result fault start end
+    → IfNoWords result (λ f. HasNoWords ws f (said (status_line (status_of_words f))) start end)
+words_said ws fault start end result outside (inl h) =
+    subst (λ (r : Ended _ _ _). IfNoWords r (λ f. HasNoWords ws f (said (status_line (status_of_words f))) start end)) (sym h.0)
+    (no_words ws fault (said (status_line (status_of_words fault))) start end outside h.1)
+words_said ws fault start end result outside (inr h) =
+    subst (λ (r : Ended _ _ _). IfNoWords r (λ f. HasNoWords ws f (said (status_line (status_of_words f))) start end)) (sym h.0) tt
+
+pub words_unsaid : {S O N : Type 0} → (ws : List Text) (fault : WordsFault) (start end : Option (List Deed)) (result : Ended S O N) → (fault ≡ Usage → InGrammar ws → ⊥) → Refusal result fault start end
+    → IfUnsaid result (HasUnsaid ws start end)
+words_unsaid ws fault start end result outside (inl h) = subst (λ (r : Ended _ _ _). IfUnsaid r (HasUnsaid ws start end)) (sym h.0) tt
+words_unsaid ws fault start end result outside (inr h) =
+    subst (λ (r : Ended _ _ _). IfUnsaid r (HasUnsaid ws start end)) (sym h.0)
+    (inr (fault, no_words ws fault (unsaid (status_line (status_of_words fault))) start end outside h.1))

@@ -4,13 +4,14 @@ use Rattle.ac_io.specs.Within.{TakesAtMost}
 use Rattle.ac_words.specs.Grammar.{Text, LastWords, InGrammar}
 use Rattle.ac_words.specs.Asked.{GivesNames}
 use Rattle.ac_words.specs.declared.fault.WordsFault.{WordsFault}
+use Rattle.ac_words.specs.declared.fault.WordsFault.TheVariants.{Usage, NoMemory}
 use Rattle.ac_world.specs.Limit.{limit}
 use Rattle.ac_status.specs.Lines.{code_of, status_line}
 use Rattle.ac_status.specs.Rises.{RoseFor}
 use Rattle.ac_app.specs.Run.{HasCause, RunLeaves, IsDone}
 use Rattle.ac_world.specs.World.{told, World, NeverFalls}
 use Rattle.ac_status.specs.declared.status.Status.{Status}
-use Rattle.ac_status.specs.declared.status.Status.TheVariants.{Ok, Usage, WriteFault}
+use Rattle.ac_status.specs.declared.status.Status.TheVariants.{Ok, WriteFault}
 use Rattle.ac3.specs.Codes.{open_fault, open_fault_line, status_of_words}
 use Rattle.ac3.specs.Deeds.{Deed, unsaid, Did, told_report, AllGiven, Stopped}
 use Rattle.ac3.specs.declared.perform.Things.{Things}
@@ -91,6 +92,12 @@ pub record IsOutside (ws : List Text) (last : Deed) (old new : Option (List Deed
   pub no_meaning : InGrammar ws → ⊥
   pub did : Did old new (last ∷ [])
 
--- the line of an open fault, or of usage, couldn't be printed whole
+-- there are no words to follow: they are outside the grammar, or memory to read them was wanting. Nothing was asked for, and only this was done
+abbrev pub HasNoWords : List Text → WordsFault → Deed → Option (List Deed) → Option (List Deed) → Type 0
+HasNoWords ws Usage last old new = IsOutside ws last old new
+HasNoWords ws NoMemory last old new = Did old new (last ∷ [])
+
+-- the line of an open fault, or why there are no words, couldn't be printed whole
 abbrev pub HasUnsaid : List Text → Option (List Deed) → Option (List Deed) → Type 0
-HasUnsaid ws old new = StopsAt ws (unsaid open_fault_line) old new ⊎ IsOutside ws (unsaid (status_line Usage)) old new
+HasUnsaid ws old new = StopsAt ws (unsaid open_fault_line) old new
+    ⊎ ((fault : WordsFault) × HasNoWords ws fault (unsaid (status_line (status_of_words fault))) old new)

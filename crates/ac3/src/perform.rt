@@ -1,12 +1,10 @@
 //! All that the program does, over any desk.
 ghost use Rattle.std.specs.Prelude.{◌≡◌, ◌⊎◌, false, [], ◌∷◌, List, map, string_bytes, MatchResult, OnErr};
 ghost use Rattle.ac_words.specs.Asked.{texts_of};
-ghost use Rattle.ac_words.specs.declared.fault.WordsFault.TheVariants.{Usage};
 ghost use Rattle.ac_status.specs.Lines.{status_line};
-ghost use Rattle.ac_status.specs.declared.status.Status.TheVariants as statuses;
 ghost use Rattle.ac3.specs.Codes.{open_fault_line, status_of_words};
 ghost use Rattle.ac3.specs.Deeds.{Deed, Did, asked, said, unsaid, refused, report_file, told_report, is_dash, input_of, output_of, report_given, all_given, all_compared, means_one as is_one_of, is_shared as is_shared_by, AllGiven, Refused, Stopped};
-ghost use Rattle.ac3.specs.Ends.{code_of_end, IfRan, IfOpenFault, IfNoWords, IfUnsaid, Leaves, world_of, RunsOn, StopsAt, IsOutside, HasUnsaid};
+ghost use Rattle.ac3.specs.Ends.{code_of_end, IfRan, IfOpenFault, IfNoWords, IfUnsaid, Leaves, world_of, RunsOn, StopsAt, HasNoWords, HasUnsaid};
 
 use crate::desk::{Desk, Sharing};
 use ac_app::{Failed, Names, NullSink, Sink, Source, Status, WordsFault, names, run};
@@ -248,8 +246,8 @@ pub fn perform<D: Desk>(
         (world_of D.Input.left D.Input.faults D.Output.held D.Output.faults D.Report.held D.Report.faults t)) }
     ensures stopped { IfOpenFault result
         (StopsAt (map string_bytes words.now) (said open_fault_line) (D.done desk.old) (D.done desk.new)) }
-    ensures no_words { IfNoWords result (λ fault. (fault ≡ Usage)
-        × IsOutside (map string_bytes words.now) (said (status_line statuses.Usage)) (D.done desk.old) (D.done desk.new)) }
+    ensures no_words { IfNoWords result (λ fault. HasNoWords (map string_bytes words.now) fault
+        (said (status_line (status_of_words fault))) (D.done desk.old) (D.done desk.new)) }
     ensures unsaid { IfUnsaid result (HasUnsaid (map string_bytes words.now) (D.done desk.old) (D.done desk.new)) }
 {
     let named = match names(alloc, words) {

@@ -5,7 +5,7 @@ mod hints;
 
 use crate::desk::{Desk, Sharing};
 use crate::perform::{Ended, perform};
-use ac_app::{Failed, MemSink, MemSource, Status};
+use ac_app::{Failed, MemSink, MemSource, Status, WordsFault};
 use std::alloc::{AllocError, Global};
 use std::test::Fail;
 
@@ -150,7 +150,7 @@ impl Left {
     /// Whether memory was wanting in the run, in a sink of it, or at the desk.
     fn is_starved(&self) -> bool {
         match &self.ended {
-            Ended::Ran(Status::NoMemory, _) => true,
+            Ended::NoWords(WordsFault::NoMemory) | Ended::Ran(Status::NoMemory, _) => true,
             Ended::Ran(_, things) => {
                 let report = match &things.report {
                     Some(report) => report.starved(),

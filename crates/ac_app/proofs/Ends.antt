@@ -5,7 +5,7 @@ use Rattle.ac_io.proofs.Written.{adds_both}
 use Rattle.ac_base.specs.declared.sizes.Part.{Part}
 use Rattle.ac_riff.specs.declared.fault.WavKind.{WavKind}
 use Rattle.ac_riff.specs.declared.head.WavHead.{WavHead}
-use Rattle.ac_words.specs.Grammar.{Text}
+use Rattle.ac_words.specs.Grammar.{InGrammar, Text}
 use Rattle.ac_words.specs.declared.meaning.Command.{Command}
 use Rattle.ac_words.specs.declared.meaning.Command.TheVariants.{Encode, Decode, Synth}
 use Rattle.ac_words.specs.declared.meaning.Options.{Options}
@@ -67,6 +67,23 @@ ok_answer statuses.NoMemory true e = absurd cc
 ok_answer statuses.NoMemory false e = absurd cc
 ok_answer (statuses.TooLong most) true e = absurd cc
 ok_answer (statuses.TooLong most) false e = absurd cc
+
+-- the status line leaves want of memory as it is
+pub still_wanting : (status result : Status) (whole : Bool) → result ≡ answer_of status whole → (result ≡ statuses.NoMemory → ⊥) → status ≡ statuses.NoMemory → ⊥
+still_wanting status result whole e not is = not (e ∙ ap (λ (s : Status). answer_of s whole) is ∙ wanting whole)
+  where
+    wanting : (w : Bool) → answer_of statuses.NoMemory w ≡ statuses.NoMemory
+    wanting true = refl
+    wanting false = refl
+
+pub still_outside : (ws : List Text) (status result : Status) (whole : Bool) → result ≡ answer_of status whole
+    → ((InGrammar ws → ⊥) → (status ≡ statuses.NoMemory → ⊥) → status ≡ statuses.Usage) → (InGrammar ws → ⊥) → (result ≡ statuses.NoMemory → ⊥) → result ≡ statuses.Usage
+still_outside ws status result whole e usage none not =
+    e ∙ ap (λ (s : Status). answer_of s whole) (usage none (still_wanting status result whole e not)) ∙ said whole
+  where
+    said : (w : Bool) → answer_of statuses.Usage w ≡ statuses.Usage
+    said true = refl
+    said false = refl
 
 -- ---- causes
 

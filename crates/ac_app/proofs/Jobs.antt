@@ -9,6 +9,7 @@ use Rattle.ac_words.specs.declared.meaning.Options.{Options}
 use Rattle.ac_status.specs.declared.status.Status.{Status}
 use Rattle.ac_status.specs.declared.status.Status.TheVariants as statuses
 use Rattle.ac_world.specs.World.{World}
+use Rattle.ac_app.specs.Decoded.{AnswersStream}
 use Rattle.ac_app.specs.Run.{AsksEncode, CommandLeaves, CommandHasCause, JobLeaves, HasCause}
 
 pub in_grammar : (ws : List Text) (c : Command) → GivesCommand ws c → InGrammar ws
@@ -74,3 +75,11 @@ asked_cause ws c statuses.ReadFault bytes g h not = of_asked ws c h.0 statuses.R
 asked_cause ws c statuses.WriteFault bytes g h not = of_asked ws c h.0 statuses.WriteFault bytes g h.1 h.2
 asked_cause ws c statuses.NoMemory bytes g h not = absurd (not refl)
 asked_cause ws c (statuses.TooLong most) bytes g h not = of_asked ws c h.0 (statuses.TooLong most) bytes g h.1 h.2
+
+-- where memory was wanting nothing is said of a stream
+pub wants_memory : (bytes : List ℕ) → AnswersStream bytes statuses.NoMemory
+wants_memory bytes = record {
+  decoded = λ frames is a b c. absurd (c refl);
+  bad = λ frame fault is a b c. absurd (c refl);
+  long = λ is a b c. absurd (c refl);
+}

@@ -74,7 +74,7 @@ fn job<S: Source, O: Sink, N: Sink>(
     ensures answers { (bytes : List ℕ) → S.left input.old ≡ Some bytes → AsksDecode (map string_bytes words.now)
         → AnswersStream bytes result }
     ensures usage { result ≡ Status.Usage → InGrammar (map string_bytes words.now) → ⊥ }
-    ensures outside { (InGrammar (map string_bytes words.now) → ⊥) → result ≡ Status.Usage }
+    ensures outside { (InGrammar (map string_bytes words.now) → ⊥) → result ≢ Status.NoMemory → result ≡ Status.Usage }
     ensures untouched { result ≡ Status.Usage → (input.new ≡ input.old) × (output.new ≡ output.old) × (report.new ≡ report.old) }
     ensures kept { result ≡ Status.NoMemory → (output.new ≡ output.old) × (report.new ≡ report.old) }
     ensures most_read { (bytes : List ℕ) → S.left input.old ≡ Some bytes → TakesAtMost bytes (limit + 1) (S.left input.new) }
@@ -137,9 +137,9 @@ pub fn run<S: Source, O: Sink, N: Sink>(
     ensures cause { (bytes : List ℕ) → S.left input.old ≡ Some bytes → HasCause (map string_bytes words.now) result bytes }
     // At most one byte past the limit is taken of the input, whatever the answer.
     ensures most_read { (bytes : List ℕ) → S.left input.old ≡ Some bytes → TakesAtMost bytes (limit + 1) (S.left input.new) }
-    // Usage exactly outside the grammar, and then nothing is read and nothing but the status line written.
+    // Usage exactly outside the grammar, unless memory was wanting, and then nothing is read and nothing but the status line written.
     ensures usage { result ≡ Status.Usage → InGrammar (map string_bytes words.now) → ⊥ }
-    ensures outside { (InGrammar (map string_bytes words.now) → ⊥) → result ≡ Status.Usage }
+    ensures outside { (InGrammar (map string_bytes words.now) → ⊥) → result ≢ Status.NoMemory → result ≡ Status.Usage }
     ensures untouched { result ≡ Status.Usage → (input.new ≡ input.old) × (output.new ≡ output.old) }
     // Where memory was wanting the output is as it was, whatever the objects tell.
     ensures kept { result ≡ Status.NoMemory → output.new ≡ output.old }

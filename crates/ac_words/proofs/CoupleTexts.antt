@@ -1,6 +1,7 @@
 -- The text of a coupling.
-use Rattle.std.proofs.Common.{◌≡◌, ◌≢◌, ◌∙◌, ◌+◌, ◌<◌, ◌≤◌, ◌^◌, ℕ, MatchOption, Option, Bor, refl, sym, ap, arith, All, [], ◌∷◌, ◌++◌, length, get_or, codes, decimal}
+use Rattle.std.proofs.Common.{◌≡◌, ◌≢◌, ◌∙◌, ◌+◌, ◌<◌, ◌≤◌, ◌^◌, ℕ, MatchOption, Option, Bor, not, true, refl, sym, ap, arith, All, [], ◌∷◌, ◌++◌, length, get_or, codes, decimal}
 use Rattle.std.specs.Int.{IsInRange}
+use Rattle.std.specs.Str.Parse.{starts_with_minus}
 use Rattle.std.proofs.lemmas.Fmt.{decimal_is_IsNumeral, decimal_injective}
 use Rattle.std.proofs.lemmas.List.Elements.{All-head, All-tail, All-from_get_or}
 use Rattle.std.proofs.lemmas.Str.Parse.{digit_at}
@@ -8,7 +9,7 @@ use Rattle.std.proofs.lemmas.Str.Pattern.{IsSplitOnceResult, split_after}
 use Rattle.ac_words.specs.Grammar.{AreBins, IsCouple, IsNumber, Text}
 use Rattle.ac_words.specs.declared.meaning.Couple.{Couple}
 use Rattle.ac_words.specs.declared.meaning.Couple.TheVariants.{Off, Auto, Bins}
-use Rattle.ac_words.proofs.Numbers.{Begins, decimal_begins, same_number}
+use Rattle.ac_words.proofs.Numbers.{Begins, decimal_begins, plain_decimal, same_number}
 
 -- ---- a comma between two numbers
 
@@ -80,6 +81,19 @@ no_bins text b bs begin end is letter h =
     let small : begin < 2 ^ 64 = omega (arith, h.1) in
     let low : b ≤ 57 = begins_low begin (decimal begin) (codes "," ++ decimal end) (decimal_begins begin small) b bs (sym is ∙ h.0) in
     omega arith
+
+plain_before : (ds rest : Text) → 0 < length ds → not (starts_with_minus ds) ≡ true → not (starts_with_minus (ds ++ rest)) ≡ true
+plain_before [] rest some plain = absurd (omega arith)
+plain_before (d ∷ ds) rest some plain = plain
+
+-- the text of a coupling doesn't begin with a hyphen
+pub plain_couple : (text : Text) (c : Couple) → IsCouple text c → not (starts_with_minus text) ≡ true
+plain_couple text Off h = ap (λ t. not (starts_with_minus t)) h
+plain_couple text Auto h = ap (λ t. not (starts_with_minus t)) h
+plain_couple text (Bins begin end) h =
+    let small : begin < 2 ^ 64 = omega (arith, h.1) in
+    ap (λ t. not (starts_with_minus t)) h.0
+    ∙ plain_before (decimal begin) (codes "," ++ decimal end) (decimal_begins begin small).some (plain_decimal begin small)
 
 pub couple_one : (text : Text) (c d : Couple) → IsCouple text c → IsCouple text d → c ≡ d
 couple_one text Off Off h k = refl

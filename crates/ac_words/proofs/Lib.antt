@@ -2,5 +2,8 @@ pub mod Numbers
 pub mod RateTexts
 pub mod CoupleTexts
 pub mod InPairs
+pub mod PairLaw
+pub mod ShapeLaw
+pub mod Shaped
 pub mod Said
 pub mod Split

@@ -1,7 +1,7 @@
 -- The text of a number, and its parse.
 use Rattle.std.proofs.Common.{◌≡◌, ◌≢◌, ◌∙◌, ◌<◌, ◌≤◌, ◌+◌, ◌^◌, ◌/◌, ◌%◌, ◌==◌, ◌&&◌, ℕ, Bool, cond, not, true, false, refl, sym, ap, arith, List, [], ◌∷◌, ◌++◌, length, slice_index, get_or, Result, Ok, Err, true≢false, rules, subst}
 use Rattle.std.specs.Fmt.{decimal}
-use Rattle.std.specs.Str.Parse.{AllDigits, IsNumeral, ParsesUnsigned, digits_value, without_leading_plus}
+use Rattle.std.specs.Str.Parse.{AllDigits, IsNumeral, ParsesUnsigned, digits_value, starts_with_minus, without_leading_plus}
 use Rattle.std.proofs.lemmas.Bool.Decides.{nat_tests}
 use Rattle.std.proofs.lemmas.Fmt.{decimal_by_steps, decimal_digit, decimal_injective, decimal-digits_value, parse-decimal}
 use Rattle.std.proofs.lemmas.Str.Parse.{IsNumeralModel}
@@ -42,6 +42,9 @@ zero_text = decimal_digit 0 (omega arith)
 
 pub bare_decimal : (n : ℕ) → n < 2 ^ 64 → is_bare_number (decimal n) ≡ true
 bare_decimal n small = bare_when n (decimal n) (decimal_begins n small) (λ z. ap (λ (k : ℕ). length (decimal k)) z ∙ ap length zero_text)
+
+pub plain_decimal : (n : ℕ) → n < 2 ^ 64 → not (starts_with_minus (decimal n)) ≡ true
+plain_decimal n small = let low : 48 ≤ slice_index (decimal n) 0 = (decimal_begins n small).low in grind (arith, nat_tests)
 
 no_plus : (bs : Text) → is_bare_number bs ≡ true → (0 < length bs) × (without_leading_plus bs ≡ bs) × (slice_index bs 0 ≡ 48 → length bs ≡ 1)
 no_plus [] e = absurd (true≢false (sym e))

@@ -1,20 +1,24 @@
 -- What the words of pairs say, in one way, and within its bounds.
-use Rattle.std.proofs.Common.{◌≡◌, ◌∙◌, ◌<◌, ◌≤◌, ◌^◌, ℕ, true, sym, ap, arith, List, map, Option, Some, None, codes, subst}
+use Rattle.std.proofs.Common.{◌≡◌, ◌∙◌, ◌<◌, ◌≤◌, ◌^◌, ℕ, true, false, refl, sym, ap, arith, List, Option, Some, None, codes, subst}
 use Rattle.std.specs.Option.{ForSome}
 use Rattle.ac_words.specs.Asked.{GivesCommand}
-use Rattle.ac_words.specs.Grammar.{ArePairs, BandwidthOf, CoupleOf, EncodePairs, FramesOf, IsNumber, NodesOf, Pair, RateOf, Says, SeedOf, SynthPairs, Text, encode_known, synth_known, value_in}
+use Rattle.ac_words.specs.Grammar.{BandwidthOf, CoupleOf, EncodePairs, FramesOf, IsNumber, NodesOf, Pair, RateOf, Says, SeedOf, SynthPairs, Text, encode_known, synth_known, value_in}
 use Rattle.ac_words.specs.Lawful.{IsRange, IsWithinBounds}
-use Rattle.ac_words.specs.Pairs.{are_pairs, hyphened, value_behind}
+use Rattle.ac_words.specs.Options.{AreWhole}
+use Rattle.ac_words.specs.Shape.{pairs_of}
 use Rattle.ac_base.specs.Rates.{IsRate}
 use Rattle.ac_words.specs.declared.meaning.Command.{Command}
 use Rattle.ac_words.specs.declared.meaning.Command.TheVariants.{Encode, Decode, Synth}
 use Rattle.ac_words.specs.declared.meaning.Couple.{Couple}
 use Rattle.ac_words.specs.declared.meaning.Couple.TheVariants.{Off, Auto, Bins}
 use Rattle.ac_words.specs.declared.meaning.Options.{Options}
-use Rattle.ac_words.proofs.CoupleTexts.{couple_one}
-use Rattle.ac_words.proofs.InPairs.{in_pairs, pairs_are, spelled_one, value_read}
-use Rattle.ac_words.proofs.Numbers.{same_number}
+use Rattle.ac_words.specs.declared.shape.Kind.TheVariants as kinds
+use Rattle.ac_words.proofs.CoupleTexts.{couple_one, plain_couple}
+use Rattle.ac_words.proofs.InPairs.{spelled_one}
+use Rattle.ac_words.proofs.Numbers.{plain_decimal, same_number}
 use Rattle.ac_words.proofs.RateTexts.{rate_fits}
+use Rattle.ac_words.proofs.Shaped.{AreFound, IsSaid, is_plain, pairs_found, pairs_from}
+use Rattle.ac_words.proofs.ShapeLaw.{readable_for}
 
 -- ---- a text says one number
 
@@ -35,63 +39,66 @@ bandwidth_one = number_one 60 (omega arith)
 
 -- ---- what is read in the words is what their pairs say
 
--- the options of words
-abbrev pub encode_options : List Text
-encode_options = map hyphened encode_known
-
-abbrev pub synth_options : List Text
-synth_options = map hyphened synth_known
-
--- what the words say of encode
-abbrev pub Read : List Text → Options → Type 0
-Read ws o = Says (value_behind (codes "--rate") ws) (value_behind (codes "--nodes") ws) (value_behind (codes "--bw") ws)
-    (value_behind (codes "--couple") ws) o
-
 -- what the values of pairs say
 abbrev SayAll : List Pair → Options → Type 0
 SayAll ps o = Says (value_in (codes "rate") ps) (value_in (codes "nodes") ps) (value_in (codes "bw") ps) (value_in (codes "couple") ps) o
 
-read_alike : (ws : List Text) (ps : List Pair) (o : Options) → ArePairs encode_known ws ps → Read ws o ≡ SayAll ps o
-read_alike ws ps o h =
-    ap (λ (v : Option Text). Says v (value_behind (codes "--nodes") ws) (value_behind (codes "--bw") ws) (value_behind (codes "--couple") ws) o)
-    (value_read encode_known ws ps h (codes "rate"))
-    ∙ ap (λ (v : Option Text). Says (value_in (codes "rate") ps) v (value_behind (codes "--bw") ws) (value_behind (codes "--couple") ws) o)
-    (value_read encode_known ws ps h (codes "nodes"))
-    ∙ ap (λ (v : Option Text). Says (value_in (codes "rate") ps) (value_in (codes "nodes") ps) v (value_behind (codes "--couple") ws) o)
-    (value_read encode_known ws ps h (codes "bw"))
-    ∙ ap (λ (v : Option Text). Says (value_in (codes "rate") ps) (value_in (codes "nodes") ps) (value_in (codes "bw") ps) v o)
-    (value_read encode_known ws ps h (codes "couple"))
+rate_said : (v : Option Text) (rate : ℕ) → RateOf v rate → IsSaid true v
+rate_said None rate h = absurd h
+rate_said (Some text) rate h = ap (λ t. is_plain t) h.0 ∙ plain_decimal rate (rate_fits rate h.1)
 
-pub encode_from : (ws : List Text) (o : Options) → are_pairs encode_options ws ≡ true → Read ws o → EncodePairs ws o
-encode_from ws o e h =
-    let i = in_pairs encode_known ws e in
-    record { pairs = i.pairs; form = i.form; says = subst (λ (X : Type 0). X) (read_alike ws i.pairs o i.form) h }
+number_said : (most : ℕ) → most < 2 ^ 64 → (text : Text) (n : ℕ) → IsNumber most text n → is_plain text ≡ true
+number_said most small text n h = let fits : n < 2 ^ 64 = omega (arith, h.1) in ap (λ t. is_plain t) h.0 ∙ plain_decimal n fits
 
-pub encode_pairs : (ws : List Text) (o : Options) → EncodePairs ws o → are_pairs encode_options ws ≡ true
-encode_pairs ws o h = pairs_are encode_known ws h.pairs h.form
+nodes_said : (v : Option Text) (nodes : ℕ) → NodesOf v nodes → IsSaid false v
+nodes_said None nodes h = refl
+nodes_said (Some text) nodes h = number_said 10000000 (omega arith) text nodes h
 
-pub encode_read : (ws : List Text) (o : Options) → EncodePairs ws o → Read ws o
-encode_read ws o h = subst (λ (X : Type 0). X) (sym (read_alike ws h.pairs o h.form)) h.says
+bandwidth_said : (v : Option Text) (bw : Option ℕ) → BandwidthOf v bw → IsSaid false v
+bandwidth_said None bw h = refl
+bandwidth_said (Some text) bw h = number_said 60 (omega arith) text h.0 h.2
 
-pub synth_from : (ws : List Text) (seed frames : ℕ) → are_pairs synth_options ws ≡ true → SeedOf (value_behind (codes "--seed") ws) seed
-    → FramesOf (value_behind (codes "--frames") ws) frames → SynthPairs ws seed frames
+couple_said : (v : Option Text) (couple : Couple) → CoupleOf v couple → IsSaid false v
+couple_said None couple h = refl
+couple_said (Some text) couple h = plain_couple text couple h
+
+seed_said : (v : Option Text) (seed : ℕ) → SeedOf v seed → IsSaid true v
+seed_said None seed h = absurd h
+seed_said (Some text) seed h = number_said 18446744073709551615 (omega arith) text seed h
+
+frames_said : (v : Option Text) (frames : ℕ) → FramesOf v frames → IsSaid true v
+frames_said None frames h = absurd h
+frames_said (Some text) frames h = number_said 200 (omega arith) text frames h.0
+
+pub encode_from : (ws : List Text) (o : Options) → AreWhole encode_known ws → SayAll (pairs_of ws) o → EncodePairs ws o
+encode_from ws o e h = record { pairs = pairs_of ws; form = pairs_from encode_known (readable_for kinds.Encode) ws e; says = h }
+
+encode_found : (ws : List Text) (o : Options) (h : EncodePairs ws o) → AreFound encode_known ws h.pairs
+encode_found ws o h = pairs_found encode_known ws h.pairs h.form
+    (rate_said _ o.rate h.says.rate_is, (nodes_said _ o.nodes h.says.nodes_is, (bandwidth_said _ o.bw h.says.bw_is, (couple_said _ o.couple h.says.couple_is, tt))))
+
+pub encode_whole : (ws : List Text) (o : Options) → EncodePairs ws o → AreWhole encode_known ws
+encode_whole ws o h = (encode_found ws o h).whole
+
+pub encode_read : (ws : List Text) (o : Options) → EncodePairs ws o → SayAll (pairs_of ws) o
+encode_read ws o h = subst (λ (ps : List Pair). SayAll ps o) (sym (encode_found ws o h).same) h.says
+
+pub synth_from : (ws : List Text) (seed frames : ℕ) → AreWhole synth_known ws → SeedOf (value_in (codes "seed") (pairs_of ws)) seed
+    → FramesOf (value_in (codes "frames") (pairs_of ws)) frames → SynthPairs ws seed frames
 synth_from ws seed frames e h k =
-    let i = in_pairs synth_known ws e in
-    record {
-      pairs = i.pairs;
-      form = i.form;
-      seed_is = subst (λ (v : Option Text). SeedOf v seed) (value_read synth_known ws i.pairs i.form (codes "seed")) h;
-      frames_is = subst (λ (v : Option Text). FramesOf v frames) (value_read synth_known ws i.pairs i.form (codes "frames")) k;
-    }
+    record { pairs = pairs_of ws; form = pairs_from synth_known (readable_for kinds.Synth) ws e; seed_is = h; frames_is = k }
 
-pub synth_pairs : (ws : List Text) (seed frames : ℕ) → SynthPairs ws seed frames → are_pairs synth_options ws ≡ true
-synth_pairs ws seed frames h = pairs_are synth_known ws h.pairs h.form
+synth_found : (ws : List Text) (seed frames : ℕ) (h : SynthPairs ws seed frames) → AreFound synth_known ws h.pairs
+synth_found ws seed frames h = pairs_found synth_known ws h.pairs h.form (seed_said _ seed h.seed_is, (frames_said _ frames h.frames_is, tt))
 
-pub seed_read : (ws : List Text) (seed frames : ℕ) → SynthPairs ws seed frames → SeedOf (value_behind (codes "--seed") ws) seed
-seed_read ws seed frames h = subst (λ (v : Option Text). SeedOf v seed) (sym (value_read synth_known ws h.pairs h.form (codes "seed"))) h.seed_is
+pub synth_whole : (ws : List Text) (seed frames : ℕ) → SynthPairs ws seed frames → AreWhole synth_known ws
+synth_whole ws seed frames h = (synth_found ws seed frames h).whole
 
-pub frames_read : (ws : List Text) (seed frames : ℕ) → SynthPairs ws seed frames → FramesOf (value_behind (codes "--frames") ws) frames
-frames_read ws seed frames h = subst (λ (v : Option Text). FramesOf v frames) (sym (value_read synth_known ws h.pairs h.form (codes "frames"))) h.frames_is
+pub seed_read : (ws : List Text) (seed frames : ℕ) → SynthPairs ws seed frames → SeedOf (value_in (codes "seed") (pairs_of ws)) seed
+seed_read ws seed frames h = subst (λ (ps : List Pair). SeedOf (value_in (codes "seed") ps) seed) (sym (synth_found ws seed frames h).same) h.seed_is
+
+pub frames_read : (ws : List Text) (seed frames : ℕ) → SynthPairs ws seed frames → FramesOf (value_in (codes "frames") (pairs_of ws)) frames
+frames_read ws seed frames h = subst (λ (ps : List Pair). FramesOf (value_in (codes "frames") ps) frames) (sym (synth_found ws seed frames h).same) h.frames_is
 
 -- ---- one meaning
 
@@ -144,10 +151,10 @@ same_frames None m n h k = absurd h
 same_frames (Some text) m n h k = number_one 200 (omega arith) text m n h.0 k.0
 
 pub seed_one : (ws : List Text) (s f t g : ℕ) → SynthPairs ws s f → SynthPairs ws t g → s ≡ t
-seed_one ws s f t g h k = same_seed (value_behind (codes "--seed") ws) s t (seed_read ws s f h) (seed_read ws t g k)
+seed_one ws s f t g h k = same_seed (value_in (codes "seed") (pairs_of ws)) s t (seed_read ws s f h) (seed_read ws t g k)
 
 pub frames_one : (ws : List Text) (s f t g : ℕ) → SynthPairs ws s f → SynthPairs ws t g → f ≡ g
-frames_one ws s f t g h k = same_frames (value_behind (codes "--frames") ws) f g (frames_read ws s f h) (frames_read ws t g k)
+frames_one ws s f t g h k = same_frames (value_in (codes "frames") (pairs_of ws)) f g (frames_read ws s f h) (frames_read ws t g k)
 
 -- ---- the bounds
 

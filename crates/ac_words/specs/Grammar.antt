@@ -3,7 +3,7 @@
 -- All of it is this project's own but the rates, which are those of A/52 Table 5.18.
 use Rattle.std.specs.Fmt.{decimal}
 use Rattle.std.specs.List.{list_all, list_any}
-use Rattle.std.specs.Prelude.{◌≡◌, ◌+◌, ◌≤◌, ℕ, Bool, not, true, nat_lt, ◌||◌, ◌&&◌, List, [], ◌∷◌, ◌++◌, length, Option, Some, None, find, option_map, MatchOption, IsTrue, codes}
+use Rattle.std.specs.Prelude.{◌≡◌, ◌+◌, ◌≤◌, ℕ, Bool, not, true, false, nat_lt, ◌||◌, ◌&&◌, List, [], ◌∷◌, ◌++◌, length, Option, Some, None, find, option_map, MatchOption, IsTrue, codes}
 use Rattle.std.specs.Str.{bytes_eq}
 use Rattle.std.specs.Str.Parse.{starts_with_minus}
 use Rattle.ac_base.specs.Rates.{is_rate}
@@ -30,29 +30,41 @@ spelled (p ∷ ps) = (codes "--" ++ p.0) ∷ p.1 ∷ spelled ps
 abbrev pub has_name : Text → List Pair → Bool
 has_name name = list_any (λ p. bytes_eq p.0 name)
 
+-- no pair has a name that stands in `seen` or before it
+abbrev pub is_fresh : List Pair → List Pair → Bool
+is_fresh seen [] = true
+is_fresh seen (p ∷ ps) = not (has_name p.0 seen) && is_fresh (seen ++ p ∷ []) ps
+
 -- no name stands twice
 abbrev pub none_twice : List Pair → Bool
-none_twice [] = true
-none_twice (p ∷ ps) = not (has_name p.0 ps) && none_twice ps
+none_twice ps = is_fresh [] ps
 
 -- the value of the first pair of this name
 abbrev pub value_in : Text → List Pair → Option Text
 value_in name ps = option_map (λ p. p.1) (find (λ p. bytes_eq p.0 name) ps)
 
--- each pair's name is one of these
-abbrev pub all_known : List Text → List Pair → Bool
-all_known known = list_all (λ p. list_any (λ name. bytes_eq p.0 name) known)
+-- an option's name, and whether it has to be given
+abbrev pub Known : Type 0
+Known = Text × Bool
 
--- these words are the pairs, each with one of these names, and none twice
-pub record ArePairs (known : List Text) (ws : List Text) (ps : List Pair) : Type 0 where
+-- the name is one of these options
+abbrev pub is_known : List Known → Text → Bool
+is_known known name = list_any (λ option. bytes_eq name option.0) known
+
+-- each pair's name is one of these options
+abbrev pub all_known : List Known → List Pair → Bool
+all_known known = list_all (λ p. is_known known p.0)
+
+-- these words are the pairs, each with one of these options, and none twice
+pub record ArePairs (known : List Known) (ws : List Text) (ps : List Pair) : Type 0 where
   pub words : ws ≡ spelled ps
   pub names : all_known known ps ≡ true
   pub once : none_twice ps ≡ true
 
 -- ---- the options of encode
 
-abbrev pub encode_known : List Text
-encode_known = codes "rate" ∷ codes "nodes" ∷ codes "bw" ∷ codes "couple" ∷ []
+abbrev pub encode_known : List Known
+encode_known = (codes "rate", true) ∷ (codes "nodes", false) ∷ (codes "bw", false) ∷ (codes "couple", false) ∷ []
 
 -- the text is a rate of A/52 Table 5.18 in decimal digits, without a sign or a leading zero; a rate is required
 abbrev pub RateOf : Option Text → ℕ → Type 0
@@ -101,8 +113,8 @@ pub record EncodePairs (ws : List Text) (o : Options) : Type 0 where
 
 -- ---- the options of synth
 
-abbrev pub synth_known : List Text
-synth_known = codes "seed" ∷ codes "frames" ∷ []
+abbrev pub synth_known : List Known
+synth_known = (codes "seed", true) ∷ (codes "frames", true) ∷ []
 
 -- where the numbers drawn start: at most 2^64 - 1; a seed is required
 abbrev pub SeedOf : Option Text → ℕ → Type 0

@@ -1,5 +1,6 @@
 pub mod Digits
 pub mod Grammar
-pub mod Pairs
+pub mod Shape
+pub mod Options
 pub mod Asked
 pub mod Lawful

@@ -6,7 +6,7 @@ pub enum WordsFault {
     /// The words are not in the grammar.
     #[error("the words are no command")]
     Usage,
-    /// There was not enough memory. No call answers it while the words are read by hand.
+    /// There was not enough memory to read them.
     #[error("out of memory")]
     NoMemory,
 }

@@ -59,42 +59,39 @@ fn parts_of<'a>(words: &'a [String]) -> Option<Parts<'a>>
 }
 
 /// What the words mean, where they are in the grammar.
-fn asked_by<'a>(words: &'a [String]) -> Option<Asked<'a>>
-    ensures { MatchOption result (¬ InGrammar (map string_bytes words.entry.now))
-        (λ a. Means (map string_bytes words.entry.now) (meaning_of a.command (texts_of a.names))) }
+fn asked_by<'a>(alloc: Global, words: &'a [String]) -> Result<Asked<'a>, WordsFault>
+    ensures value { IfOk result (λ a. Means (map string_bytes words.entry.now) (meaning_of a.command (texts_of a.names))) }
+    ensures cause { result ≡ Err Usage → ¬ InGrammar (map string_bytes words.entry.now) }
 {
     let Some(parts) = parts_of(words) else {
-        return None;
+        return Err(WordsFault::Usage);
     };
     if !are_names(parts.names) {
-        return None;
+        return Err(WordsFault::Usage);
     }
-    let Some(command) = command_of(parts.command, parts.pairs) else {
-        return None;
-    };
-    Some(Asked {
-        command,
-        names: parts.names,
-    })
+    match command_of(alloc, parts.command, parts.pairs) {
+        Ok(command) => Ok(Asked {
+            command,
+            names: parts.names,
+        }),
+        Err(fault) => Err(fault),
+    }
 }
 
 /// The names in the words.
 ///
 /// # Errors
 ///
-/// `Usage` exactly where the words are not in the grammar. They are read without memory, so that `NoMemory`
-/// never comes.
+/// `Usage` exactly where the words are not in the grammar, but that `NoMemory` can come first.
 pub fn names<'a>(alloc: Global, words: &'a [String]) -> Result<Names<'a>, WordsFault>
     ensures value { IfOk result (λ n. GivesNames (map string_bytes words.entry.now) (texts_of n)) }
     ensures cause { result ≡ Err Usage → ¬ InGrammar (map string_bytes words.entry.now) }
-    ensures refused { ¬ InGrammar (map string_bytes words.entry.now) → result ≡ Err Usage }
-    ensures complete { InGrammar (map string_bytes words.entry.now) → IsOk result }
-    ensures memory { result ≢ Err NoMemory }
+    ensures refused { ¬ InGrammar (map string_bytes words.entry.now) → result ≢ Err NoMemory → result ≡ Err Usage }
+    ensures complete { InGrammar (map string_bytes words.entry.now) → result ≢ Err NoMemory → IsOk result }
 {
-    let _ = alloc;
-    match asked_by(words) {
-        Some(asked) => Ok(asked.names),
-        None => Err(WordsFault::Usage),
+    match asked_by(alloc, words) {
+        Ok(asked) => Ok(asked.names),
+        Err(fault) => Err(fault),
     }
 }
 
@@ -102,19 +99,16 @@ pub fn names<'a>(alloc: Global, words: &'a [String]) -> Result<Names<'a>, WordsF
 ///
 /// # Errors
 ///
-/// `Usage` exactly where the words are not in the grammar. They are read without memory, so that `NoMemory`
-/// never comes.
+/// `Usage` exactly where the words are not in the grammar, but that `NoMemory` can come first.
 pub fn command(alloc: Global, words: &[String]) -> Result<Command, WordsFault>
     ensures value { IfOk result (GivesCommand (map string_bytes words.now)) }
     ensures lawful { IfOk result IsWithinBounds }
     ensures cause { result ≡ Err Usage → ¬ InGrammar (map string_bytes words.now) }
-    ensures refused { ¬ InGrammar (map string_bytes words.now) → result ≡ Err Usage }
-    ensures complete { InGrammar (map string_bytes words.now) → IsOk result }
-    ensures memory { result ≢ Err NoMemory }
+    ensures refused { ¬ InGrammar (map string_bytes words.now) → result ≢ Err NoMemory → result ≡ Err Usage }
+    ensures complete { InGrammar (map string_bytes words.now) → result ≢ Err NoMemory → IsOk result }
 {
-    let _ = alloc;
-    match asked_by(words) {
-        Some(asked) => Ok(asked.command),
-        None => Err(WordsFault::Usage),
+    match asked_by(alloc, words) {
+        Ok(asked) => Ok(asked.command),
+        Err(fault) => Err(fault),
     }
 }

@@ -1,7 +1,7 @@
-use Rattle.std.proofs.Common.{ap, Err}
+use Rattle.std.proofs.Common.{ap, inl, refl, Err}
 use Rattle.ac_words.specs.declared.fault.WordsFault.{WordsFault}
 use Rattle.ac_words.specs.declared.meaning.Command.TheVariants.{Decode}
-use Rattle.ac_app.proofs.Jobs.{in_grammar, one_command, job_leaves, job_cause}
+use Rattle.ac_app.proofs.Jobs.{wants_memory, in_grammar, one_command, job_leaves, job_cause}
 use Rattle.ac_app.proofs.top.job.Goals as goal
 
 pub returns-in-Ok-clause-told : goal.returns-in-Ok-clause-told
@@ -18,3 +18,9 @@ returns-in-Ok-clause-answers g c = λ bytes told asks.
 
 pub returns-in-Err-Usage-clause-answers : goal.returns-in-Err-Usage-clause-answers
 returns-in-Err-Usage-clause-answers g c = λ bytes told asks. absurd (c.in-Err-Usage.ensures.cause (ap (λ (e : WordsFault). Err e) c.in-Err-Usage.field-0-is) (in_grammar _ Decode asks))
+
+pub returns-in-Err-NoMemory-clause-told : goal.returns-in-Err-NoMemory-clause-told
+returns-in-Err-NoMemory-clause-told g c = λ bytes told. inl refl
+
+pub returns-in-Err-NoMemory-clause-answers : goal.returns-in-Err-NoMemory-clause-answers
+returns-in-Err-NoMemory-clause-answers g c = λ bytes told asks. wants_memory bytes

@@ -1,4 +1,4 @@
-use Rattle.ac_app.proofs.Ends.{run_cause, is_done, refused_is, too_low_is, too_long_is, complete_is, still_answers}
+use Rattle.ac_app.proofs.Ends.{run_cause, is_done, refused_is, too_low_is, too_long_is, complete_is, still_answers, still_outside}
 use Rattle.ac_app.proofs.top.run.Goals as goal
 
 pub returns-clause-told : goal.returns-clause-told
@@ -41,3 +41,6 @@ returns-clause-bad_stream g c = λ bytes frame fault told asks is.
 pub returns-clause-long_stream : goal.returns-clause-long_stream
 returns-clause-long_stream g c = λ bytes told asks is.
     (still_answers bytes c.job-status.result c.answer.result c.tell-whole.result c.answer.ensures (c.job-status.ensures.answers bytes told asks)).long is
+
+pub returns-clause-outside : goal.returns-clause-outside
+returns-clause-outside g c = still_outside _ c.job-status.result c.answer.result c.tell-whole.result c.answer.ensures c.job-status.ensures.outside
