@@ -22,7 +22,8 @@ fn tree_line<O: Sink>(pen: &mut Pen, out: &mut O, root: &Tree)
 
 /// Writes the lines of an offset.
 fn level<O: Sink>(pen: &mut Pen, out: &mut O, shape: &Shape, t: u64, lines: &Level)
-    ensures { Wrote ((level (fields_of shape.now) t).spell (offset_of lines.now)) (page O.held O.faults pen.old out.old) (page O.held O.faults pen.new out.new) }
+    ensures { Wrote ((level (fields_of shape.now) t).spell (offset_of lines.now))
+        (page O.held O.faults pen.old out.old) (page O.held O.faults pen.new out.new) }
 {
     pen.word(out, b"offset ");
     pen.digits(out, t);
@@ -34,7 +35,8 @@ fn level<O: Sink>(pen: &mut Pen, out: &mut O, shape: &Shape, t: u64, lines: &Lev
 /// Writes the lines of so many offsets at most, down to 0, and the last line.
 fn levels<O: Sink>(pen: &mut Pen, out: &mut O, shape: &Shape, count: u64, all: &[Level])
     requires { length all.now ≤ count }
-    ensures { Wrote ((levels (fields_of shape.now) count).spell (offsets_of all.now)) (page O.held O.faults pen.old out.old) (page O.held O.faults pen.new out.new) }
+    ensures { Wrote ((levels (fields_of shape.now) count).spell (offsets_of all.now))
+        (page O.held O.faults pen.old out.old) (page O.held O.faults pen.new out.new) }
 {
     let mut left = count;
     for lines in all {
@@ -54,7 +56,8 @@ pub fn over<O: Sink>(
     all: &[Level],
 )
     requires { length all.now ≤ top + 1 }
-    ensures { Wrote ((over (fields_of shape.now) top).spell (option_map pots_of above.now, offsets_of all.now)) (page O.held O.faults pen.old out.old) (page O.held O.faults pen.new out.new) }
+    ensures { Wrote ((over (fields_of shape.now) top).spell (option_map pots_of above.now, offsets_of all.now))
+        (page O.held O.faults pen.old out.old) (page O.held O.faults pen.new out.new) }
 {
     let count = u64::from(top) + 1;
     match above {

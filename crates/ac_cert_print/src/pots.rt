@@ -49,7 +49,8 @@ fn parts<O: Sink>(pen: &mut Pen, out: &mut O, c: u8, rows: &[[u32; 6]; 3])
 
 /// Writes the lines of a channel, which has none where it isn't coded.
 fn pot_lines<O: Sink>(pen: &mut Pen, out: &mut O, shape: &Shape, c: u8, rows: &[[u32; 6]; 3])
-    ensures { Wrote ((pot_lines (fields_of shape.now) c).spell rows.now) (page O.held O.faults pen.old out.old) (page O.held O.faults pen.new out.new) }
+    ensures { Wrote ((pot_lines (fields_of shape.now) c).spell rows.now)
+        (page O.held O.faults pen.old out.old) (page O.held O.faults pen.new out.new) }
 {
     if c < shape.coded() {
         parts(pen, out, c, rows);
@@ -58,7 +59,8 @@ fn pot_lines<O: Sink>(pen: &mut Pen, out: &mut O, shape: &Shape, c: u8, rows: &[
 
 /// Writes the potentials of an offset.
 pub fn pots<O: Sink>(pen: &mut Pen, out: &mut O, shape: &Shape, all: &Pots)
-    ensures { Wrote ((pots (fields_of shape.now)).spell all.now.p) (page O.held O.faults pen.old out.old) (page O.held O.faults pen.new out.new) }
+    ensures { Wrote ((pots (fields_of shape.now)).spell all.now.p)
+        (page O.held O.faults pen.old out.old) (page O.held O.faults pen.new out.new) }
 {
     for c in 0..7u8 {
         pot_lines(pen, out, shape, c, &all.p[usize::from(c)]);

@@ -19,7 +19,8 @@ fn is_in(span: &Span, k: usize) -> bool
 /// Writes the number of a bin in a span.
 fn entry<O: Sink>(pen: &mut Pen, out: &mut O, span: &Span, k: usize, entry: u8)
     requires { k < span.now.end }
-    ensures { Wrote ((number 256 (end_at span.now.end k)).spell entry) (page O.held O.faults pen.old out.old) (page O.held O.faults pen.new out.new) }
+    ensures { Wrote ((number 256 (end_at span.now.end k)).spell entry)
+        (page O.held O.faults pen.old out.old) (page O.held O.faults pen.new out.new) }
 {
     pen.small(out, entry, end_at(usize::from(span.end), k));
 }
@@ -45,7 +46,8 @@ fn row<O: Sink>(pen: &mut Pen, out: &mut O, span: &Span, entries: &[u8; 256])
 
 /// Writes the line of a coded channel and a block.
 fn raw_line<O: Sink>(pen: &mut Pen, out: &mut O, span: &Span, c: u8, b: u8, entries: &[u8; 256])
-    ensures { Wrote ((raw_line span.now c b).spell entries.now) (page O.held O.faults pen.old out.old) (page O.held O.faults pen.new out.new) }
+    ensures { Wrote ((raw_line span.now c b).spell entries.now)
+        (page O.held O.faults pen.old out.old) (page O.held O.faults pen.new out.new) }
 {
     pen.word(out, b"raw ");
     pen.place(out, c);
@@ -57,7 +59,8 @@ fn raw_line<O: Sink>(pen: &mut Pen, out: &mut O, span: &Span, c: u8, b: u8, entr
 
 /// Writes the lines of the six blocks of a coded channel.
 fn blocks<O: Sink>(pen: &mut Pen, out: &mut O, span: &Span, c: u8, rows: &[[u8; 256]; 6])
-    ensures { Wrote ((each 6 0 (raw_line span.now c)).spell rows.now) (page O.held O.faults pen.old out.old) (page O.held O.faults pen.new out.new) }
+    ensures { Wrote ((each 6 0 (raw_line span.now c)).spell rows.now)
+        (page O.held O.faults pen.old out.old) (page O.held O.faults pen.new out.new) }
 {
     for b in 0..6u8 {
         raw_line(pen, out, span, c, b, &rows[usize::from(b)]);
@@ -66,7 +69,8 @@ fn blocks<O: Sink>(pen: &mut Pen, out: &mut O, span: &Span, c: u8, rows: &[[u8; 
 
 /// Writes the lines of a channel, which has none where it isn't coded.
 fn raw_lines<O: Sink>(pen: &mut Pen, out: &mut O, shape: &Shape, c: u8, rows: &[[u8; 256]; 6])
-    ensures { Wrote ((raw_lines (fields_of shape.now) c).spell rows.now) (page O.held O.faults pen.old out.old) (page O.held O.faults pen.new out.new) }
+    ensures { Wrote ((raw_lines (fields_of shape.now) c).spell rows.now)
+        (page O.held O.faults pen.old out.old) (page O.held O.faults pen.new out.new) }
 {
     if c < shape.coded() {
         blocks(pen, out, &shape.span(c), c, rows);
@@ -75,7 +79,8 @@ fn raw_lines<O: Sink>(pen: &mut Pen, out: &mut O, shape: &Shape, c: u8, rows: &[
 
 /// Writes the raw exponents.
 pub fn raws<O: Sink>(pen: &mut Pen, out: &mut O, shape: &Shape, raw: &RawExps)
-    ensures { Wrote ((raws (fields_of shape.now)).spell raw.now.e) (page O.held O.faults pen.old out.old) (page O.held O.faults pen.new out.new) }
+    ensures { Wrote ((raws (fields_of shape.now)).spell raw.now.e)
+        (page O.held O.faults pen.old out.old) (page O.held O.faults pen.new out.new) }
 {
     for c in 0..7u8 {
         raw_lines(pen, out, shape, c, &raw.e[usize::from(c)]);

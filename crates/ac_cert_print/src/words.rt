@@ -39,7 +39,8 @@ fn word_line<O: Sink>(pen: &mut Pen, out: &mut O, c: u8, word: &Word)
 
 /// Writes the line of a channel, which has none where it isn't coded.
 fn word<O: Sink>(pen: &mut Pen, out: &mut O, shape: &Shape, c: u8, word: &Word)
-    ensures { Wrote ((word_at (fields_of shape.now) c).spell word.now) (page O.held O.faults pen.old out.old) (page O.held O.faults pen.new out.new) }
+    ensures { Wrote ((word_at (fields_of shape.now) c).spell word.now)
+        (page O.held O.faults pen.old out.old) (page O.held O.faults pen.new out.new) }
 {
     if c < shape.coded() {
         word_line(pen, out, c, word);
@@ -48,7 +49,8 @@ fn word<O: Sink>(pen: &mut Pen, out: &mut O, shape: &Shape, c: u8, word: &Word)
 
 /// Writes the words.
 pub fn words<O: Sink>(pen: &mut Pen, out: &mut O, shape: &Shape, all: &[Word; 7])
-    ensures { Wrote ((words (fields_of shape.now)).spell all.now) (page O.held O.faults pen.old out.old) (page O.held O.faults pen.new out.new) }
+    ensures { Wrote ((words (fields_of shape.now)).spell all.now)
+        (page O.held O.faults pen.old out.old) (page O.held O.faults pen.new out.new) }
 {
     for c in 0..7u8 {
         word(pen, out, shape, c, &all[usize::from(c)]);
